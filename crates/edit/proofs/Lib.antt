@@ -1,0 +1,2 @@
+-- Laws of editing.
+pub mod Without

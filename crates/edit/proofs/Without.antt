@@ -1,0 +1,70 @@
+-- The list without corner k.
+--     kept k i                           the number that the i-th of the other corners has in the list: i before k, i + 1 from k on
+--     kept-before, kept-after            so it is
+--     kept-mono, kept-≤                  it rises with i, and is at most i + 1
+--     length-without, corner-without     one corner fewer; the i-th is corner `kept k i`
+--     without-convex, without-accepted   it is strictly convex as the list is; accepted as the list is, if four corners or more
+use Prim.Native.Nat.{ℕ, zero, suc, _≤_, _<_}
+use native.Mathlib.Omega.{arith}
+use mathlib.Core.Path.{_≡_, refl, ap}
+use mathlib.Core.List.{List, [], _∷_}
+use lib.ListN.{length, length-append, length-take, length-drop}
+use Rattle.plane.specs.declared.Corner.{Corner}
+use Rattle.outline.specs.Corners.{corner}
+use Rattle.outline.specs.Convex.{StrictlyConvex, Accepted}
+use Rattle.edit.specs.Removal.{without}
+use Rattle.outline.proofs.LeftTurns.{convex-turns, turns-convex}
+
+abbrev pub kept : ℕ → ℕ → ℕ
+kept zero i = suc i
+kept (suc k) zero = zero
+kept (suc k) (suc i) = suc (kept k i)
+
+pub kept-before : (k i : ℕ) → i < k → kept k i ≡ i
+kept-before zero i h = absurd (omega arith)
+kept-before (suc k) zero h = refl
+kept-before (suc k) (suc i) h = ap suc (kept-before k i (omega arith))
+
+pub kept-after : (k i : ℕ) → k ≤ i → kept k i ≡ suc i
+kept-after zero i h = refl
+kept-after (suc k) zero h = absurd (omega arith)
+kept-after (suc k) (suc i) h = ap suc (kept-after k i (omega arith))
+
+pub kept-mono : (k i j : ℕ) → i < j → kept k i < kept k j
+kept-mono zero i j h = omega arith
+kept-mono (suc k) i zero h = absurd (omega arith)
+kept-mono (suc k) zero (suc j) h = omega arith
+kept-mono (suc k) (suc i) (suc j) h = omega (arith, kept-mono k i j (omega arith))
+
+pub kept-≤ : (k i : ℕ) → kept k i ≤ suc i
+kept-≤ zero i = omega arith
+kept-≤ (suc k) zero = omega arith
+kept-≤ (suc k) (suc i) = omega (arith, kept-≤ k i)
+
+pub length-without : (k : ℕ) (cs : List Corner) → k < length cs → suc (length (without k cs)) ≡ length cs
+unfolding without
+length-without k cs h = simp (length-append, length-take, length-drop) (omega arith)
+
+pub corner-without : (k : ℕ) (cs : List Corner) (i : ℕ) → corner (without k cs) i ≡ corner cs (kept k i)
+unfolding without
+corner-without zero [] i = refl
+corner-without (suc k) [] i = refl
+corner-without zero (c ∷ cs) i = refl
+corner-without (suc k) (c ∷ cs) zero = refl
+corner-without (suc k) (c ∷ cs) (suc i) = corner-without k cs i
+
+pub without-convex : (cs : List Corner) (k : ℕ) → k < length cs → StrictlyConvex cs → StrictlyConvex (without k cs)
+without-convex cs k h convex =
+    turns-convex (without k cs)
+    λ i j l a b c. rw (corner-without k cs i, corner-without k cs j, corner-without k cs l)
+    (convex-turns cs convex (kept k i) (kept k j) (kept k l) (kept-mono k i j a) (kept-mono k j l b) (omega (arith, kept-≤ k l, length-without k cs h)))
+
+pub without-accepted : (cs : List Corner) (k : ℕ) → Accepted cs → 4 ≤ length cs → k < length cs → Accepted (without k cs)
+without-accepted cs k a four h =
+    let less = length-without k cs h in
+    record {
+      enough = omega arith;
+      few = omega (arith, a .few);
+      in-range = λ i b. rw (corner-without k cs i) (a .in-range (kept k i) (omega (arith, kept-≤ k i)));
+      convex = without-convex cs k h (a .convex);
+    }

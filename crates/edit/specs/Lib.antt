@@ -1,0 +1,2 @@
+-- What the contracts of `edit` say.
+pub mod Removal

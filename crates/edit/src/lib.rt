@@ -1,0 +1,1 @@
+// Removing a corner from an outline.

@@ -1,0 +1,11 @@
+-- Whole numbers, for the proofs of every crate: laws of the ring and the order, two tools that prove by computation,
+-- tests and what they mean, bounds on machine arithmetic, and exact fractions.
+pub mod Ring
+pub mod Order
+pub mod Polynomial
+pub mod Certificate
+pub mod Reflect
+pub mod Equal
+pub mod Tests
+pub mod Machine
+pub mod FractionLaws

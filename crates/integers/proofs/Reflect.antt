@@ -1,0 +1,43 @@
+-- A Boolean test and its meaning: what `(b ≡ true) ↔ P` gives of the other tests made of b.
+--     test-false     the test fails exactly where P does not hold
+--     test-not       the negated test
+--     test-and       two tests
+--     test-stable    P holds where it cannot fail to
+--     test-eqb, test-ltb, test-leb, test-leZ    the tests of numbers
+use Prim.Native.Nat.{ℕ, _<_, _≤_}
+use mathlib.Core.Path.{_≡_, refl, ap}
+use mathlib.Core.Logic.{_↔_, Iff·trans}
+use mathlib.Core.Bool.{Bool, true, false, not, _&&_, true≢false, false≢true}
+use borrow.Author.Tests.{not-true, eqb-true, eq-eqb, ltb-true, lt-ltb, leb-true, le-leb}
+use lib.Dec.{eqb, ltb, leb}
+use lib.IntN.{ℤ}
+use lib.Signed.{leZ, _≤ℤ_}
+use Rattle.integers.proofs.Order.{leZ-true, ≤ℤ-leZ}
+
+module _ {P : Type 0} where
+  pub test-false : (b : Bool) → ((b ≡ true) ↔ P) → ((b ≡ false) ↔ (¬ P))
+  test-false true means = (λ e. absurd (true≢false e), λ none. absurd (none (means .0 refl)))
+  test-false false means = (λ _ p. false≢true (means .1 p), λ _. refl)
+
+  pub test-not : (b : Bool) → ((b ≡ true) ↔ P) → ((not b ≡ true) ↔ (¬ P))
+  test-not b means = Iff·trans (not-true b, ap not) (test-false b means)
+
+  pub test-stable : (b : Bool) → ((b ≡ true) ↔ P) → ¬ ¬ P → P
+  test-stable true means twice = means .0 refl
+  test-stable false means twice = absurd (twice (λ p. false≢true (means .1 p)))
+
+pub test-and : {P Q : Type 0} (a b : Bool) → ((a ≡ true) ↔ P) → ((b ≡ true) ↔ Q) → ((a && b ≡ true) ↔ (P × Q))
+test-and true b p q = (λ e. (p .0 refl, q .0 e), λ both. q .1 (both .1))
+test-and false b p q = (λ e. absurd (false≢true e), λ both. absurd (false≢true (p .1 (both .0))))
+
+pub test-eqb : (a b : ℕ) → (eqb a b ≡ true) ↔ (a ≡ b)
+test-eqb a b = (eqb-true a b, eq-eqb a b)
+
+pub test-ltb : (a b : ℕ) → (ltb a b ≡ true) ↔ (a < b)
+test-ltb a b = (ltb-true a b, lt-ltb a b)
+
+pub test-leb : (a b : ℕ) → (leb a b ≡ true) ↔ (a ≤ b)
+test-leb a b = (leb-true a b, le-leb a b)
+
+pub test-leZ : (a b : ℤ) → (leZ a b ≡ true) ↔ (a ≤ℤ b)
+test-leZ a b = (leZ-true, ≤ℤ-leZ)

@@ -1,0 +1,19 @@
+-- The order of fractions, as contracts state it.
+--     order x y    the three-way comparison of two natural numbers: Less, Equal or Greater
+--     Bounded a    the bounds under which `compare` is exact in 64 bits
+-- Fractions are compared by their cross products: n1 / d1 is to n2 / d2 as n1 * d2 is to n2 * d1, in unbounded numbers.
+-- Assumes nothing.
+use mathlib.Core.Bool.{cond}
+use Prim.Native.Nat.{ℕ, _^_, _<_}
+use lib.Dec.{ltb}
+use Rattle.integers.specs.declared.fraction.Fraction.{Fraction}
+use Rattle.integers.specs.declared.fraction.Order.{Order}
+use Rattle.integers.specs.declared.fraction.Order.the-variants.{Less, Equal, Greater}
+
+unfoldable pub order : ℕ → ℕ → Order
+order x y = cond (ltb x y) Less (cond (ltb y x) Greater Equal)
+
+-- A remainder and a lower number, of 32 bits each, have a product of 64.
+pub record Bounded (a : Fraction) : Type 0 where
+  pub lower-positive : 0 < a .lower
+  pub lower-fits : a .lower < 2 ^ 32

@@ -1,0 +1,4 @@
+-- What contracts say of whole numbers.
+pub mod Size
+pub mod Equal
+pub mod Fraction

@@ -1,0 +1,71 @@
+-- The corners of a list of numbers, and the number of the following corner.
+--     next-suc, next-last            the corner after i is i + 1, and after the last it is corner 0
+--     next-below                     it is a corner of the outline
+--     next-other, next-next-other    it is another corner, and the one after it is a third
+--     length-corners                 two numbers to a corner
+--     corners-fit, corners-fill      all corners lie in the list; in an even list no number is left over
+--     corner-at                      document 01: corner i is numbers 2 i and 2 i + 1
+use Prim.Native.Nat.{ℕ, zero, suc, _+_, _*_, _/_, _%_, _<_, _≤_}
+use mathlib.Core.Path.{_≡_, refl}
+use mathlib.Core.Logic.{_≢_, _⊎_, inl, inr, ⊎-elim}
+use mathlib.Core.Bool.{Bool, true, false}
+use mathlib.Core.List.{List, [], _∷_}
+use native.Mathlib.Omega.{arith}
+use borrow.Author.Tests.{lt-ltb, le-ltb, ltb-true, ltb-false}
+use lib.Dec.{ltb}
+use lib.IntN.{ℤ, pos}
+use lib.ListN.{length, getD}
+use Rattle.outline.specs.Corners.{corners, corner, next}
+
+module _ (n i : ℕ) where
+  pub next-suc : suc i < n → next n i ≡ suc i
+  unfolding next
+  next-suc more = rw (lt-ltb (suc i) n more)
+
+  pub next-last : n ≤ suc i → next n i ≡ 0
+  unfolding next
+  next-last last = rw (le-ltb (suc i) n last)
+
+  next-cases : ((suc i < n) × (next n i ≡ suc i)) ⊎ ((n ≤ suc i) × (next n i ≡ 0))
+  next-cases = go (ltb (suc i) n) refl
+    where
+      go : (t : Bool) → ltb (suc i) n ≡ t → ((suc i < n) × (next n i ≡ suc i)) ⊎ ((n ≤ suc i) × (next n i ≡ 0))
+      go true e = let more = ltb-true (suc i) n e in inl (more, next-suc more)
+      go false e = let last = ltb-false (suc i) n e in inr (last, next-last last)
+
+  pub next-below : 0 < n → next n i < n
+  next-below some = ⊎-elim (λ more. omega arith) (λ last. omega arith) next-cases
+
+  pub next-other : 2 ≤ n → next n i ≢ i
+  next-other two = ⊎-elim (λ more. omega arith) (λ last. omega arith) next-cases
+
+pub next-next-other : (n i : ℕ) → 3 ≤ n → next n (next n i) ≢ i
+next-next-other n i three = ⊎-elim
+    (λ more. ⊎-elim (λ more₂. omega arith) (λ last₂. omega arith) (next-cases n (next n i)))
+    (λ last. ⊎-elim (λ more₂. omega arith) (λ last₂. omega arith) (next-cases n (next n i)))
+    (next-cases n i)
+
+pub length-corners : (s : List ℤ) → length (corners s) ≡ length s / 2
+unfolding corners
+length-corners [] = refl
+length-corners (x ∷ []) = refl
+length-corners (x ∷ (y ∷ s)) = omega (arith, length-corners s)
+
+pub corners-fit : (s : List ℤ) → 2 * length (corners s) ≤ length s
+corners-fit s = omega (arith, length-corners s)
+
+pub corners-fill : (s : List ℤ) → length s % 2 ≡ 0 → 2 * length (corners s) ≡ length s
+corners-fill s even = omega (arith, length-corners s)
+
+pub corner-at : (s : List ℤ) (i : ℕ) → i < length (corners s) → corner (corners s) i ≡ record { x = getD s (2 * i) (pos 0); y = getD s (2 * i + 1) (pos 0) }
+unfolding corners
+corner-at [] i below = refl
+corner-at (x ∷ []) i below = absurd (omega arith)
+corner-at (x ∷ (y ∷ s)) zero below = refl
+corner-at (x ∷ (y ∷ s)) (suc i) below = rw (even, odd) (corner-at s i (omega arith))
+  where
+    even : 2 * suc i ≡ suc (suc (2 * i))
+    even = omega arith
+
+    odd : suc (suc (2 * i)) + 1 ≡ suc (suc (2 * i + 1))
+    odd = omega arith

@@ -1,0 +1,135 @@
+-- What `each` finds: the first of the checks at 0, 1, .. below n that fails.
+--     AllPass                        the checks at all numbers below n pass
+--     First                          the check at some number below n fails so, and all before it pass
+--     each-passed, each-failed       `each` passes exactly where all checks pass, and fails so exactly where there is such a first check
+--     first-lowest, lowest-first     where a check fails exactly where something holds, the first to fail is the lowest of which it holds
+use Prim.Native.Nat.{ℕ, zero, suc, _-_, _<_, _≤_}
+use mathlib.Core.Path.{_≡_, refl, ap, subst, _∙_}
+use mathlib.Core.Logic.{_↔_, Iff·trans, _⊎_, inl, inr, ⊎-elim}
+use mathlib.Core.Bool.{Bool, true, false, true≢false, false≢true}
+use native.Mathlib.Nat.{sub-zero, eq-or-lt-of-le, le-of-suc-le-suc}
+use native.Mathlib.Numerals.{add-one}
+use native.Mathlib.Omega.{arith}
+use Rattle.integers.proofs.Reflect.{test-false}
+use Rattle.outline.specs.declared.Check.{Check}
+use Rattle.outline.specs.declared.Fault.{Fault}
+use Rattle.outline.specs.declared.Check.the-variants.{Passed, Failed}
+use Rattle.outline.specs.Checks.{each, failIf}
+use Rattle.outline.specs.Applies.{Lowest}
+use Rattle.outline.proofs.ChecksLaws.{each-goes-on, each-stops, each-ends}
+
+pub passed≢failed : {c : Check} {f : Fault} → c ≡ Passed → c ≡ Failed f → ⊥
+passed≢failed p q = let z : _≡_ {A = ℕ} 0 1 = cc in omega arith
+
+not-failed : (c : Check) → ((f : Fault) → ¬ (c ≡ Failed f)) → c ≡ Passed
+not-failed Passed none = refl
+not-failed (Failed f) none = absurd (none f refl)
+
+failed-inj : {c : Check} {f g : Fault} → c ≡ Failed f → c ≡ Failed g → f ≡ g
+failed-inj p q = cc
+
+abbrev pub AllPass : (ℕ → Check) → ℕ → Type 0
+AllPass check n = (i : ℕ) → i < n → check i ≡ Passed
+
+pub record First (check : ℕ → Check) (n : ℕ) (f : Fault) : Type 0 where
+  pub place : ℕ
+  pub below : place < n
+  pub fails : check place ≡ Failed f
+  pub earlier : AllPass check place
+
+module _ (check : ℕ → Check) where
+  -- checks that pass leave it to the rest
+  each-reaches : (n i : ℕ) → i ≤ n → AllPass check i → each check n 0 ≡ each check (n - i) i
+  each-reaches n zero within pass = rw sub-zero
+  each-reaches n (suc i) within pass =
+      each-reaches n i (omega arith) (λ j lower. pass j (omega arith)) ∙ each-goes-on check n i within (pass i (omega arith)) ∙ rw add-one
+
+  all-passed : (n : ℕ) → AllPass check n → each check n 0 ≡ Passed
+  all-passed n pass = each-reaches n n (omega arith) pass ∙ each-ends check n n (omega arith)
+
+  first-failed : {n : ℕ} {f : Fault} → First check n f → each check n 0 ≡ Failed f
+  first-failed {n} {f} first =
+      each-reaches n (first .place) (omega arith) (first .earlier) ∙ each-stops check n (first .place) f (first .below) (first .fails)
+
+  -- either all checks pass, or there is a first that fails
+  abbrev Scan : ℕ → Type 0
+  Scan n = AllPass check n ⊎ ((f : Fault) × First check n f)
+
+  one-more : (n : ℕ) → AllPass check n → check n ≡ Passed → AllPass check (suc n)
+  one-more n pass passes i below =
+      ⊎-elim (λ e. rw e passes) (pass i) (eq-or-lt-of-le (le-of-suc-le-suc below))
+
+  scan : (n : ℕ) → Scan n
+  scan zero = inl (λ i below. absurd (omega arith))
+  scan (suc n) = go (scan n) (check n) refl
+    where
+      go : Scan n → (c : Check) → check n ≡ c → Scan (suc n)
+      go (inl pass) Passed e = inl (one-more n pass e)
+      go (inl pass) (Failed f) e = inr (f, record { place = n; below = omega arith; fails = e; earlier = pass })
+      go (inr (f, first)) c e =
+          inr (f, record { place = first .place; below = omega arith; fails = first .fails; earlier = first .earlier })
+
+  pub each-passed : (n : ℕ) → (each check n 0 ≡ Passed) ↔ AllPass check n
+  each-passed n = (λ e. ⊎-elim (λ pass. pass) (λ first. absurd (passed≢failed e (first-failed (first .1)))) (scan n), all-passed n)
+
+  pub each-failed : (n : ℕ) (f : Fault) → (each check n 0 ≡ Failed f) ↔ First check n f
+  each-failed n f = (
+    λ e. ⊎-elim (λ pass. absurd (passed≢failed (all-passed n pass) e)) (λ first. subst (First check n) (failed-inj (first-failed (first .1)) e) (first .1)) (scan n),
+    first-failed,
+  )
+
+-- a check that fails exactly where something holds
+pub record FailsWhere (P : ℕ → Type 0) (check : ℕ → Check) : Type 0 where
+  pub holds : (i : ℕ) (f : Fault) → check i ≡ Failed f → P i
+  pub not-holds : (i : ℕ) → check i ≡ Passed → ¬ P i
+
+module _ {P : ℕ → Type 0} {check : ℕ → Check} (decides : FailsWhere P check) (n : ℕ) where
+  passes : (i : ℕ) → ¬ P i → check i ≡ Passed
+  passes i none = not-failed (check i) (λ f fails. none (decides .holds i f fails))
+
+  pub each-none : (each check n 0 ≡ Passed) ↔ ((i : ℕ) → i < n → ¬ P i)
+  each-none =
+      Iff·trans (each-passed check n) (λ pass i below. decides .not-holds i (pass i below), λ none i below. passes i (none i below))
+
+  pub each-lowest : (f : Fault) → (each check n 0 ≡ Failed f) ↔ ((i : ℕ) × (check i ≡ Failed f) × Lowest P n i)
+  each-lowest f = Iff·trans (each-failed check n f) (lowest, first)
+    where
+      lowest : First check n f → (i : ℕ) × (check i ≡ Failed f) × Lowest P n i
+      lowest first = (
+        first .place,
+        first .fails,
+        record { below = first .below; here = decides .holds (first .place) f (first .fails); lowest = λ j lower. decides .not-holds j (first .earlier j lower) },
+      )
+
+      first : (i : ℕ) × (check i ≡ Failed f) × Lowest P n i → First check n f
+      first (i, fails, low) = record { place = i; below = low .below; fails = fails; earlier = λ j lower. passes j (low .lowest j lower) }
+
+-- ---- checks that tests make
+
+module _ {P : Type 0} where
+  failIf-passed : (b : Bool) → ((b ≡ true) ↔ P) → (f : Fault) → (failIf b f ≡ Passed) ↔ (¬ P)
+  failIf-passed b means f = Iff·trans (passed-false b) (test-false b means)
+    where
+      passed-false : (b : Bool) → (failIf b f ≡ Passed) ↔ (b ≡ false)
+      passed-false true = (λ e. absurd (passed≢failed e refl), λ e. absurd (true≢false e))
+      passed-false false = (λ _. refl, λ _. refl)
+
+  pub failIf-failed : (b : Bool) → ((b ≡ true) ↔ P) → (f g : Fault) → (failIf b f ≡ Failed g) ↔ ((f ≡ g) × P)
+  failIf-failed true means f g = (λ e. (failed-inj refl e, means .0 refl), λ both. ap Failed (both .0))
+  failIf-failed false means f g = (λ e. absurd (passed≢failed refl e), λ both. absurd (false≢true (means .1 (both .1))))
+
+module _ {P : ℕ → Type 0} (t : ℕ → Bool) (means : (i : ℕ) → (t i ≡ true) ↔ P i) (fault : ℕ → Fault) where
+  pub test-fails : FailsWhere P (λ i. failIf (t i) (fault i))
+  test-fails = record {
+    holds = λ i f e. failIf-failed (t i) (means i) (fault i) f .0 e .1;
+    not-holds = λ i. failIf-passed (t i) (means i) (fault i) .0;
+  }
+
+  pub test-lowest : (n : ℕ) (f : Fault) → (each (λ i. failIf (t i) (fault i)) n 0 ≡ Failed f) ↔ ((i : ℕ) × (fault i ≡ f) × Lowest P n i)
+  test-lowest n f = Iff·trans (each-lowest test-fails n f) (there, back)
+    where
+      there : (i : ℕ) × (failIf (t i) (fault i) ≡ Failed f) × Lowest P n i → (i : ℕ) × (fault i ≡ f) × Lowest P n i
+      there (i, fails, low) = (i, failIf-failed (t i) (means i) (fault i) f .0 fails .0, low)
+
+      back : (i : ℕ) × (fault i ≡ f) × Lowest P n i → (i : ℕ) × (failIf (t i) (fault i) ≡ Failed f) × Lowest P n i
+      back (i, e, low) = (i, failIf-failed (t i) (means i) (fault i) f .1 (e, low .here), low)

@@ -1,0 +1,89 @@
+-- `outline::checks::check` makes the checks in order.
+use borrow.Author.Needs.{needs}
+use mathlib.Core.List.{List}
+use mathlib.Core.Path.{_≡_, sym, ap, _∙_}
+use lib.IntN.{ℤ}
+use Rattle.outline.specs.declared.Check.{Check}
+use Rattle.outline.specs.Checks.{_orElse_}
+use Rattle.outline.specs.Corners.{corners}
+use Rattle.outline.specs.Reading.{oddLength, tooFew, tooMany, outOfRange, repeated, notLeft, check}
+use Rattle.outline.proofs.ChecksLaws.{orElse-assoc, stops, goes-on}
+use Rattle.outline.proofs.Stages.{outOfRange-passed}
+use Rattle.outline.proofs.checks.check.Statement.{statement}
+use Rattle.outline.proofs.checks.check.Tie as tie
+
+-- the first three checks are made by one function
+grouped : (s : List ℤ) → (oddLength s orElse tooFew (corners s) orElse tooMany (corners s)) orElse outOfRange (corners s) orElse repeated (corners s) orElse notLeft (corners s) ≡ check s
+unfolding check
+grouped s =
+    orElse-assoc (oddLength s) _ _ ∙ ap (λ (c : Check). oddLength s orElse c) (orElse-assoc (tooFew (corners s)) _ _)
+
+check-count-requires : tie.Need-check-count-requires
+check-count-requires c κs = search needs
+
+enum-known-f : tie.Need-enum-known-f
+enum-known-f c = search needs
+
+returns : tie.Need-returns
+returns c = stops _ (c .before .before .before .check-count .ensures) (c .before .f .given .1) ∙ grouped _
+
+enum-told : tie.Need-enum-told
+enum-told c = search needs
+
+check-range-requires : tie.Need-check-range-requires
+check-range-requires c κs = search needs
+
+enum-known-f-2 : tie.Need-enum-known-f-2
+enum-known-f-2 c = search needs
+
+returns-2 : tie.Need-returns-2
+returns-2 c =
+    goes-on _ (c .before .before .before .before .before .before .check-count .ensures) (c .before .before .before .before .enum-told .given .1)
+    (stops _ (c .before .before .before .check-range .ensures) (c .before .f2 .given .1)) ∙ grouped _
+
+enum-told-2 : tie.Need-enum-told-2
+enum-told-2 c = search needs
+
+check-repeated-requires : tie.Need-check-repeated-requires
+check-repeated-requires c κs = search needs
+
+enum-known-f-3 : tie.Need-enum-known-f-3
+enum-known-f-3 c = search needs
+
+returns-3 : tie.Need-returns-3
+returns-3 c =
+    goes-on _ (c .before .before .before .before .before .before .before .before .before .check-count .ensures) (c .before .before .before .before .before .before .before .enum-told .given .1)
+    (goes-on _ (c .before .before .before .before .before .before .check-range .ensures) (c .before .before .before .before .enum-told2 .given .1)
+    (stops _ (c .before .before .before .check-repeated .ensures) (c .before .f3 .given .1))) ∙ grouped _
+
+enum-told-3 : tie.Need-enum-told-3
+enum-told-3 c = search needs
+
+check-convex-requires : tie.Need-check-convex-requires
+check-convex-requires c κs =
+    outOfRange-passed (corners _) (sym (c .before .before .before .before .before .check-range .ensures) ∙ c .before .before .before .enum-told2 .given .1)
+
+returns-4 : tie.Need-returns-4
+returns-4 c =
+    goes-on _ (c .before .before .before .before .before .before .before .before .before .check-count .ensures) (c .before .before .before .before .before .before .before .enum-told .given .1)
+    (goes-on _ (c .before .before .before .before .before .before .check-range .ensures) (c .before .before .before .before .enum-told2 .given .1)
+    (goes-on _ (c .before .before .before .check-repeated .ensures) (c .before .enum-told3 .given .1) (c .check-convex .ensures))) ∙ grouped _
+
+pub check-spec : {M : Type 1} → statement M
+check-spec =
+    tie.close
+    (tie.spec
+    check-count-requires
+    enum-known-f
+    returns
+    enum-told
+    check-range-requires
+    enum-known-f-2
+    returns-2
+    enum-told-2
+    check-repeated-requires
+    enum-known-f-3
+    returns-3
+    enum-told-3
+    check-convex-requires
+    returns-4)

@@ -1,0 +1,55 @@
+-- `outline::checks::is_not_left` leaves the edge's two ends out and then goes by the side number's sign.
+use borrow.Author.Needs.{needs}
+use borrow.Author.Tests.{eq-eqb, ne-eqb}
+use mathlib.Core.Bool.{Bool, true, false, not, _&&_}
+use mathlib.Core.Path.{_≡_, refl, sym, ap, _∙_}
+use Prim.Native.Nat.{ℕ}
+use lib.Dec.{eqb}
+use lib.IntN.{ℤ, pos}
+use lib.Signed.{leZ}
+use mir.Syntax.{w64}
+use Rattle.integers.proofs.Machine.{i64, stored}
+use Rattle.plane.specs.declared.Corner.{Corner}
+use Rattle.plane.specs.declared.Vector.{Vector}
+use Rattle.plane.specs.Range.{InRange, Span, reach}
+use Rattle.plane.specs.Vector.{_⇀_, cross}
+use Rattle.plane.proofs.Range.{span-⇀, span-difference, atMost-cross}
+use Rattle.outline.proofs.checks.is_not_left.Statement.{statement}
+use Rattle.outline.proofs.checks.is_not_left.Tie as tie
+
+-- the three tests in a row
+module _ (c e f : ℕ) (b : Bool) where
+  at-start : c ≡ e → false ≡ (not (eqb c e) && not (eqb c f) && b)
+  at-start p = rw (eq-eqb c e p)
+
+  at-end : (c ≡ e → ⊥) → c ≡ f → false ≡ (not (eqb c e) && not (eqb c f) && b)
+  at-end n p = rw (ne-eqb c e n, eq-eqb c f p)
+
+  elsewhere : (c ≡ e → ⊥) → (c ≡ f → ⊥) → b ≡ (not (eqb c e) && not (eqb c f) && b)
+  elsewhere n m = rw (ne-eqb c e n, ne-eqb c f m)
+
+-- the side number is read back from 64 bits as it is
+sign-kept : {edge to : Vector} {p v : Corner} {z : ℤ} → Span reach edge → InRange p → InRange v → to ≡ p ⇀ v → z ≡ cross edge to → i64 z ≡ cross edge (p ⇀ v)
+sign-kept {edge} span p-in v-in runs is =
+    stored w64 (record { bound = atMost-cross span (span-⇀ p-in v-in); exact = is ∙ ap (cross edge) runs }) tt .exact
+
+returns : tie.Need-returns
+returns c = at-start _ _ _ _ (c .if1 .taken)
+
+returns-2 : tie.Need-returns-2
+returns-2 c = at-end _ _ _ _ (c .before .if1 .left) (c .if2 .taken)
+
+difference-requires : tie.Need-difference-requires
+difference-requires c κs = search needs
+
+side-requires : tie.Need-side-requires
+side-requires c κs = search span-difference
+
+returns-3 : tie.Need-returns-3
+returns-3 c =
+    let pre = c .before .before .before .before .pre in
+    ap (λ (z : ℤ). leZ z (pos 0)) (sign-kept (pre .0) (pre .1 .0) (pre .1 .1) (c .before .difference .ensures) (c .side .ensures))
+    ∙ elsewhere _ _ _ _ (c .before .before .before .if1 .left) (c .before .before .if2 .left)
+
+pub is-not-left-spec : {M : Type 1} → statement M
+is-not-left-spec = tie.close (tie.spec returns returns-2 difference-requires side-requires returns-3)

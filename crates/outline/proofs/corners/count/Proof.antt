@@ -1,0 +1,11 @@
+-- `outline::corners::count` counts two numbers to a corner.
+use mathlib.Core.Path.{sym}
+use Rattle.outline.proofs.CornersLaws.{length-corners}
+use Rattle.outline.proofs.corners.count.Statement.{statement}
+use Rattle.outline.proofs.corners.count.Tie as tie
+
+returns : tie.Need-returns
+returns c = sym (length-corners (c .args .s .now))
+
+pub count-spec : {M : Type 1} → statement M
+count-spec = tie.close (tie.spec returns)

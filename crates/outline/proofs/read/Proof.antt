@@ -1,0 +1,62 @@
+-- `outline::read` goes by what the checks find, as the definition does.
+use borrow.Author.Needs.{needs}
+use mathlib.Core.List.{List}
+use mathlib.Core.Path.{_≡_, refl, sym, ap, _∙_}
+use lib.IntN.{ℤ}
+use Rattle.outline.specs.declared.Check.{Check}
+use Rattle.outline.specs.declared.Outcome.{Outcome}
+use Rattle.outline.specs.declared.Outcome.the-variants.{Refused}
+use Rattle.outline.specs.declared.Outline.{Outline}
+use Rattle.outline.specs.declared.Reading.{Reading}
+use Rattle.outline.specs.declared.RefusedSide.{RefusedSide}
+use Rattle.outline.specs.Corners.{corners}
+use Rattle.outline.specs.Reading.{check, outlineRead, reading}
+use Rattle.outline.specs.Refusal.{outcome}
+use Rattle.outline.proofs.Acceptance.{accepted}
+use Rattle.outline.proofs.read.Statement.{statement}
+use Rattle.outline.proofs.read.Tie as tie
+
+reading-is : (side : RefusedSide) (s : List ℤ) {c : Check} {o : Outcome} {l : Outline} → check s ≡ c → o ≡ outcome side c → l ≡ outlineRead c (corners s) → _≡_ {A = Reading} (record { outcome = o; outline = l }) (reading side s)
+reading-is side s found ends reads = λ i. record {
+  outcome = (ends ∙ ap (outcome side) (sym found)) i;
+  outline = (reads ∙ ap (λ (c : Check). outlineRead c (corners s)) (sym found)) i;
+}
+
+check-requires : tie.Need-check-requires
+check-requires c κs = search needs
+
+enum-told : tie.Need-enum-told
+enum-told c = search needs
+
+hold-requires : tie.Need-hold-requires
+hold-requires c κs = accepted _ .0 (sym (c .before .before .check .ensures) ∙ c .enum-told .given .1) .1 .few
+
+enum-known-f : tie.Need-enum-known-f
+enum-known-f c = search needs
+
+refusal-requires : tie.Need-refusal-requires
+refusal-requires c κs = search needs
+
+none-requires : tie.Need-none-requires
+none-requires c κs = search needs
+
+returns : tie.Need-returns
+returns c =
+    reading-is _ _ (sym (c .before .before .before .check .ensures) ∙ c .before .enum-told .given .1) refl (c .hold .ensures)
+
+returns-2 : tie.Need-returns-2
+returns-2 c =
+    reading-is _ _ (sym (c .before .before .before .before .before .check .ensures) ∙ c .before .before .before .f .given .1) (ap Refused (c .before .refusal .ensures)) (c .none .ensures)
+
+pub read-spec : {M : Type 1} → statement M
+read-spec =
+    tie.close
+    (tie.spec
+    check-requires
+    enum-told
+    hold-requires
+    enum-known-f
+    refusal-requires
+    none-requires
+    returns
+    returns-2)

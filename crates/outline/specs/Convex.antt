@@ -1,0 +1,26 @@
+-- Which lists of corners are accepted.
+--     StrictlyConvex    every corner other than an edge's two ends is strictly left of the edge
+--     Accepted          document 01: an outline is accepted
+use Prim.Native.Nat.{ℕ, _≤_, _<_}
+use mathlib.Core.Path.{_≡_}
+use mathlib.Core.Logic.{_≢_}
+use mathlib.Core.List.{List}
+use lib.IntN.{pos}
+use lib.ListN.{length}
+use lib.Signed.{_<ℤ_}
+use Rattle.plane.specs.declared.Corner.{Corner}
+use Rattle.plane.specs.Range.{InRange}
+use Rattle.plane.specs.Vector.{side}
+use Rattle.outline.specs.Corners.{corner, next, most}
+
+-- every corner other than an edge's two ends is strictly left of that edge, for every edge
+abbrev pub StrictlyConvex : List Corner → Type 0
+StrictlyConvex cs =
+    (e c : ℕ) → e < length cs → c < length cs → c ≢ e → c ≢ next (length cs) e → pos 0 <ℤ side (corner cs e) (corner cs (next (length cs) e)) (corner cs c)
+
+-- 3 to 256 corners, every coordinate in range, and strictly convex
+pub record Accepted (cs : List Corner) : Type 0 where
+  pub enough : 3 ≤ length cs
+  pub few : length cs ≤ most
+  pub in-range : (i : ℕ) → i < length cs → InRange (corner cs i)
+  pub convex : StrictlyConvex cs

@@ -1,0 +1,37 @@
+-- The corners of an outline.
+--     corners    document 01: x and y of corner 0, then of corner 1, and so on
+--     corner     the corner with a number
+--     next       the number of the following corner; after the last comes corner 0.
+--                Edge i runs from corner i to corner next n i
+--     held       an outline as one value
+use Prim.Native.Nat.{ℕ, suc, _-_}
+use mathlib.Core.Bool.{cond}
+use mathlib.Core.List.{List, [], _∷_, _++_}
+use lib.Dec.{ltb}
+use lib.IntN.{ℤ, pos}
+use lib.ListN.{length, getD, replicate}
+use Rattle.plane.specs.declared.Corner.{Corner}
+use Rattle.outline.specs.declared.Outline.{Outline}
+
+-- a number left over at the end gives no corner
+unfoldable pub corners : List ℤ → List Corner
+corners [] = []
+corners (x ∷ []) = []
+corners (x ∷ (y ∷ s)) = record { x = x; y = y } ∷ corners s
+
+abbrev pub origin : Corner
+origin = record { x = pos 0; y = pos 0 }
+
+abbrev pub corner : List Corner → ℕ → Corner
+corner cs i = getD cs i origin
+
+unfoldable pub next : ℕ → ℕ → ℕ
+next n i = cond (ltb (suc i) n) (suc i) 0
+
+-- places for this many corners
+abbrev pub most : ℕ
+most = 256
+
+-- document 01: its count and places for 256 corners, the unused ones zero
+unfoldable pub held : List Corner → Outline
+held cs = record { count = length cs; corners = cs ++ replicate (most - length cs) origin }

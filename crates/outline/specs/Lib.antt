@@ -1,0 +1,7 @@
+-- Document 01, "Pieces, corners and edges" and the refusals of "The calls and what they turn down".
+pub mod Corners
+pub mod Convex
+pub mod Refusal
+pub mod Checks
+pub mod Reading
+pub mod Applies

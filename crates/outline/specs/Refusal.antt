@@ -1,0 +1,42 @@
+-- Document 01's refusals.
+--     number, place    document 01's number and place of each fault
+--     refusal          the refusal for a fault
+--     outcome          how a call ends whose checks found this
+use Prim.Native.Nat.{ℕ}
+use Rattle.outline.specs.declared.Fault.{Fault}
+use Rattle.outline.specs.declared.Fault.the-variants.{OddLength, TooFewCorners, TooManyCorners, OutOfRange, Repeated, NotLeft, NoSuchCorner, WrongLength}
+use Rattle.outline.specs.declared.Check.{Check}
+use Rattle.outline.specs.declared.Check.the-variants.{Passed, Failed}
+use Rattle.outline.specs.declared.RefusedSide.{RefusedSide}
+use Rattle.outline.specs.declared.Place.{Place}
+use Rattle.outline.specs.declared.Place.the-variants.{Nowhere, AtCorner, AtEdgeAndCorner}
+use Rattle.outline.specs.declared.Refusal.{Refusal}
+use Rattle.outline.specs.declared.Outcome.{Outcome}
+use Rattle.outline.specs.declared.Outcome.the-variants.{Done, Refused}
+
+abbrev pub number : Fault → ℕ
+number OddLength = 1
+number TooFewCorners = 2
+number TooManyCorners = 3
+number (OutOfRange i) = 4
+number (Repeated i) = 5
+number (NotLeft e c) = 6
+number NoSuchCorner = 8
+number WrongLength = 9
+
+abbrev pub place : Fault → Place
+place OddLength = Nowhere
+place TooFewCorners = Nowhere
+place TooManyCorners = Nowhere
+place (OutOfRange i) = AtCorner i
+place (Repeated i) = AtCorner i
+place (NotLeft e c) = AtEdgeAndCorner e c
+place NoSuchCorner = Nowhere
+place WrongLength = Nowhere
+
+abbrev pub refusal : RefusedSide → Fault → Refusal
+refusal side f = record { number = number f; side = side; place = place f }
+
+abbrev pub outcome : RefusedSide → Check → Outcome
+outcome side Passed = Done
+outcome side (Failed f) = Refused (refusal side f)

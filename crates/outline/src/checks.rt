@@ -1,0 +1,139 @@
+// The checks of a list, in document 01's order. Each says which corner or edge fails it first.
+use crate::Check;
+use crate::Fault;
+use crate::corners::MOST;
+use crate::corners::corner;
+use crate::corners::count;
+use crate::corners::next;
+use plane::Corner;
+use plane::Vector;
+ghost use mathlib.Core.Path.{_≡_};
+ghost use mathlib.Core.Bool.{not, _&&_};
+ghost use Prim.Native.Nat.{ℕ, _<_, _≤_};
+ghost use lib.Dec.{eqb};
+ghost use lib.IntN.{pos};
+ghost use lib.ListN.{length};
+ghost use lib.Signed.{leZ};
+ghost use Rattle.plane.specs.Range.{InRange, Span, reach};
+ghost use Rattle.plane.specs.Vector.{_⇀_, cross};
+ghost use Rattle.outline.specs.Checks.{_orElse_};
+ghost use Rattle.outline.specs.Corners.{corners, corner};
+ghost use Rattle.outline.specs.Reading.{oddLength, tooFew, tooMany, outOfRange, repeated, notLeftOf, notLeft, check};
+
+// The fewest corners of an outline.
+const FEWEST: usize = 3;
+
+// 1, 2 and 3: the length of the list.
+pub fn check_count(s: &[i32]) -> Check
+    ensures { λ r. ⌜ r ≡ oddLength (now (s .entry)) orElse tooFew (corners (now (s .entry))) orElse tooMany (corners (now (s .entry))) ⌝ }
+{
+    if s.len() % 2 == 1 {
+        return Check::Failed(Fault::OddLength);
+    }
+    let n = count(s);
+    if n < FEWEST {
+        return Check::Failed(Fault::TooFewCorners);
+    }
+    if MOST < n {
+        return Check::Failed(Fault::TooManyCorners);
+    }
+    Check::Passed
+}
+
+// 4: the first corner that is out of range.
+pub fn check_range(s: &[i32]) -> Check
+    ensures { λ r. ⌜ r ≡ outOfRange (corners (now (s .entry))) ⌝ }
+{
+    let n = count(s);
+    let mut i = 0;
+    while i < n {
+        if !plane::in_range(corner(s, i)) {
+            return Check::Failed(Fault::OutOfRange(i));
+        }
+        i += 1;
+    }
+    Check::Passed
+}
+
+// 5: the first corner that is equal to the following one.
+pub fn check_repeated(s: &[i32]) -> Check
+    ensures { λ r. ⌜ r ≡ repeated (corners (now (s .entry))) ⌝ }
+{
+    let n = count(s);
+    let mut i = 0;
+    while i < n {
+        if plane::same(corner(s, i), corner(s, next(n, i))) {
+            return Check::Failed(Fault::Repeated(i));
+        }
+        i += 1;
+    }
+    Check::Passed
+}
+
+// Whether corner c at v, which is no end of edge e from p, is not strictly left of it. The edge ends at corner f.
+fn is_not_left(e: usize, f: usize, p: Corner, edge: Vector, c: usize, v: Corner) -> bool
+    requires { ⌜ Span reach edge ⌝ }
+    requires { ⌜ InRange p ⌝ }
+    requires { ⌜ InRange v ⌝ }
+    ensures { λ r. ⌜ r ≡ (not (eqb c e) && not (eqb c f) && leZ (cross edge (p ⇀ v)) (pos 0)) ⌝ }
+{
+    if c == e {
+        return false;
+    }
+    if c == f {
+        return false;
+    }
+    plane::side(edge, plane::difference(p, v)) <= 0
+}
+
+// 6, for edge e alone: the first corner that is not strictly left of it.
+pub fn check_edge(s: &[i32], e: usize) -> Check
+    requires { ⌜ e < length (corners (now s)) ⌝ }
+    requires { ⌜ ((i : ℕ) → i < length (corners (now s)) → InRange (corner (corners (now s)) i)) ⌝ }
+    ensures { λ r. ⌜ r ≡ notLeftOf (corners (now (s .entry))) e ⌝ }
+{
+    let n = count(s);
+    let f = next(n, e);
+    let p = corner(s, e);
+    let edge = plane::difference(p, corner(s, f));
+    let mut c = 0;
+    while c < n {
+        if is_not_left(e, f, p, edge, c, corner(s, c)) {
+            return Check::Failed(Fault::NotLeft(e, c));
+        }
+        c += 1;
+    }
+    Check::Passed
+}
+
+// 6: the first edge that some corner is not strictly left of, and the first such corner.
+pub fn check_convex(s: &[i32]) -> Check
+    requires { ⌜ ((i : ℕ) → i < length (corners (now s)) → InRange (corner (corners (now s)) i)) ⌝ }
+    ensures { λ r. ⌜ r ≡ notLeft (corners (now (s .entry))) ⌝ }
+{
+    let n = count(s);
+    let mut e = 0;
+    while e < n {
+        if let Check::Failed(f) = check_edge(s, e) {
+            return Check::Failed(f);
+        }
+        e += 1;
+    }
+    Check::Passed
+}
+
+// All checks of a list: what the first that fails finds.
+pub fn check(s: &[i32]) -> Check
+    ensures { λ r. ⌜ r ≡ check (now (s .entry)) ⌝ }
+{
+    if let Check::Failed(f) = check_count(s) {
+        return Check::Failed(f);
+    }
+    if let Check::Failed(f) = check_range(s) {
+        return Check::Failed(f);
+    }
+    if let Check::Failed(f) = check_repeated(s) {
+        return Check::Failed(f);
+    }
+    check_convex(s)
+}

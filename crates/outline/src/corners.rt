@@ -1,0 +1,65 @@
+// The corners that a list of numbers gives, and the value that holds them.
+use crate::Outline;
+use plane::Corner;
+ghost use mathlib.Core.Path.{_≡_};
+ghost use mathlib.Core.List.{[]};
+ghost use Prim.Native.Nat.{_<_, _≤_};
+ghost use lib.ListN.{length};
+ghost use Rattle.outline.specs.Corners.{corners, corner, next, held, most};
+
+// How many corners an outline can hold.
+pub const MOST: usize = 256;
+
+// How many corners a list gives.
+pub fn count(s: &[i32]) -> usize
+    ensures { λ r. ⌜ r ≡ length (corners (now (s .entry))) ⌝ }
+{
+    s.len() / 2
+}
+
+// Corner i of a list.
+pub fn corner(s: &[i32], i: usize) -> Corner
+    requires { ⌜ i < length (corners (now s)) ⌝ }
+    ensures { λ r. ⌜ r ≡ corner (corners (now (s .entry))) i ⌝ }
+{
+    Corner {
+        x: s[2 * i],
+        y: s[2 * i + 1],
+    }
+}
+
+// The number of the corner that follows corner i of n.
+pub fn next(n: usize, i: usize) -> usize
+    requires { ⌜ i < n ⌝ }
+    ensures { λ r. ⌜ r ≡ next n i ⌝ }
+{
+    if i + 1 < n { i + 1 } else { 0 }
+}
+
+// The outline without corners.
+pub fn none() -> Outline
+    ensures { λ r. ⌜ r ≡ held [] ⌝ }
+{
+    Outline {
+        count: 0,
+        corners: [Corner { x: 0, y: 0 }; 256],
+    }
+}
+
+// The outline with the corners of a list.
+pub fn hold(s: &[i32]) -> Outline
+    requires { ⌜ length (corners (now s)) ≤ most ⌝ }
+    ensures { λ r. ⌜ r ≡ held (corners (now (s .entry))) ⌝ }
+{
+    let n = count(s);
+    let mut places = [Corner { x: 0, y: 0 }; 256];
+    let mut i = 0;
+    while i < n {
+        places[i] = corner(s, i);
+        i += 1;
+    }
+    Outline {
+        count: n,
+        corners: places,
+    }
+}

@@ -1,0 +1,81 @@
+// Reading an outline from a list of numbers: its corners, what is refused and why, and the value that holds an accepted one.
+pub mod checks;
+pub mod corners;
+pub mod refusals;
+
+use plane::Corner;
+ghost use mathlib.Core.Path.{_≡_};
+ghost use Rattle.outline.specs.Reading.{reading};
+
+// An outline as one value: how many corners it has, and places for 256 of them, the unused ones zero.
+pub struct Outline {
+    pub count: usize,
+    pub corners: [Corner; 256],
+}
+
+// What is wrong with what a call was handed, with its place. `specs/Refusal.antt` has document 01's number for each.
+pub enum Fault {
+    OddLength,
+    TooFewCorners,
+    TooManyCorners,
+    OutOfRange(usize),
+    Repeated(usize),
+    NotLeft(usize, usize),
+    NoSuchCorner,
+    WrongLength,
+}
+
+// What one check finds.
+pub enum Check {
+    Passed,
+    Failed(Fault),
+}
+
+// The side of a refusal: none in a call with one outline.
+pub enum RefusedSide {
+    NoSide,
+    A,
+    B,
+}
+
+// The place of a refusal: none, a corner, or an edge and a corner.
+pub enum Place {
+    Nowhere,
+    AtCorner(usize),
+    AtEdgeAndCorner(usize, usize),
+}
+
+// Document 01: a refusal.
+pub struct Refusal {
+    pub number: u32,
+    pub side: RefusedSide,
+    pub place: Place,
+}
+
+// How a call ends that answers nothing else.
+pub enum Outcome {
+    Done,
+    Refused(Refusal),
+}
+
+// What reading a list gives: the outline, or the refusal and an outline without corners.
+pub struct Reading {
+    pub outcome: Outcome,
+    pub outline: Outline,
+}
+
+// Reads the outline that a list gives. `side` is named in a refusal.
+pub fn read(s: &[i32], side: RefusedSide) -> Reading
+    ensures { λ r. ⌜ r ≡ reading side (now (s .entry)) ⌝ }
+{
+    match checks::check(s) {
+        Check::Passed => Reading {
+            outcome: Outcome::Done,
+            outline: corners::hold(s),
+        },
+        Check::Failed(f) => Reading {
+            outcome: Outcome::Refused(refusals::refusal(side, f)),
+            outline: corners::none(),
+        },
+    }
+}

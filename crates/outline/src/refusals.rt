@@ -1,0 +1,62 @@
+// From what a check finds to a refusal.
+use crate::Check;
+use crate::Fault;
+use crate::Outcome;
+use crate::Place;
+use crate::Refusal;
+use crate::RefusedSide;
+ghost use mathlib.Core.Path.{_≡_};
+ghost use Rattle.outline.specs.Refusal.{number, place, refusal, outcome};
+
+// Document 01's number of a fault.
+pub fn number(f: Fault) -> u32
+    ensures { λ r. ⌜ r ≡ number f ⌝ }
+{
+    match f {
+        Fault::OddLength => 1,
+        Fault::TooFewCorners => 2,
+        Fault::TooManyCorners => 3,
+        Fault::OutOfRange(_) => 4,
+        Fault::Repeated(_) => 5,
+        Fault::NotLeft(_, _) => 6,
+        Fault::NoSuchCorner => 8,
+        Fault::WrongLength => 9,
+    }
+}
+
+// Document 01's place of a fault.
+pub fn place(f: Fault) -> Place
+    ensures { λ r. ⌜ r ≡ place f ⌝ }
+{
+    match f {
+        Fault::OddLength => Place::Nowhere,
+        Fault::TooFewCorners => Place::Nowhere,
+        Fault::TooManyCorners => Place::Nowhere,
+        Fault::OutOfRange(i) => Place::AtCorner(i),
+        Fault::Repeated(i) => Place::AtCorner(i),
+        Fault::NotLeft(e, c) => Place::AtEdgeAndCorner(e, c),
+        Fault::NoSuchCorner => Place::Nowhere,
+        Fault::WrongLength => Place::Nowhere,
+    }
+}
+
+// The refusal for a fault.
+pub fn refusal(side: RefusedSide, f: Fault) -> Refusal
+    ensures { λ r. ⌜ r ≡ refusal side f ⌝ }
+{
+    Refusal {
+        number: number(f),
+        side: side,
+        place: place(f),
+    }
+}
+
+// How a call ends whose checks found this.
+pub fn outcome(side: RefusedSide, found: Check) -> Outcome
+    ensures { λ r. ⌜ r ≡ outcome side found ⌝ }
+{
+    match found {
+        Check::Passed => Outcome::Done,
+        Check::Failed(f) => Outcome::Refused(refusal(side, f)),
+    }
+}

@@ -1,0 +1,105 @@
+-- The algebra of vectors and points with whole components, of any size.
+-- As expressions, so that an identity is one `solve` and a sign one `prove` over `components` or `coordinates`:
+--     vec i                           the vector, or point, whose components are the variables i and i + 1
+--     crossE, dotE, _⇀E_, sideE       cross, dot, _⇀_ and side of these; O is the number 0
+--     components, coordinates         the numbers of some vectors, of some points: the k-th is vec (2 k)
+-- Identities:
+--     cross-swap, dot-swap            the arguments exchanged
+--     side-end, side-turn             a side number from the edge's other end; of three points taken round
+--     side-same                       against an edge from a point to itself it is 0
+--     cramer-x, cramer-y              cross e f times d is cross d f times e plus cross e d times f, in each component
+--     cramer-dot, cramer-cross        the same, dotted with u; crossed with g
+--     lagrange, cauchy-schwarz        cross² + dot² is the product of the squared lengths; so dot² is at most that
+use Prim.Native.Nat.{ℕ, suc}
+use mathlib.Core.Path.{_≡_}
+use mathlib.Core.List.{List, [], _∷_}
+use lib.IntN.{ℤ, pos, negℤ, _+ℤ_, _*ℤ_}
+use lib.Signed.{_≤ℤ_}
+use Rattle.integers.proofs.Polynomial.{Expr, var, lit, ⊝_, _⊕_, _⊖_, _⊗_, solve}
+use Rattle.integers.proofs.Certificate.{_≼_, _≗_, hyp, sq, eqn, _⊞_, prove}
+use Rattle.plane.specs.Vector.{_⇀_, cross, dot, side, coordinates}
+use Rattle.plane.specs.declared.Corner.{Corner}
+use Rattle.plane.specs.declared.Vector.{Vector}
+
+pub record VecE : Type 0 where
+  pub x : Expr
+  pub y : Expr
+
+abbrev pub O : Expr
+O = lit (pos 0)
+
+abbrev pub vec : ℕ → VecE
+vec i = record { x = var i; y = var (suc i) }
+
+abbrev pub crossE : VecE → VecE → Expr
+crossE a b = a .x ⊗ b .y ⊖ a .y ⊗ b .x
+
+abbrev pub dotE : VecE → VecE → Expr
+dotE a b = a .x ⊗ b .x ⊕ a .y ⊗ b .y
+
+infix 60 _⇀E_
+abbrev pub _⇀E_ : VecE → VecE → VecE
+p ⇀E q = record { x = q .x ⊖ p .x; y = q .y ⊖ p .y }
+
+abbrev pub sideE : VecE → VecE → VecE → Expr
+sideE p q v = crossE (p ⇀E q) (p ⇀E v)
+
+abbrev pub components : List Vector → List ℤ
+components [] = []
+components (v ∷ vs) = v .x ∷ v .y ∷ components vs
+
+pub cross-swap : (a b : Vector) → cross a b ≡ negℤ (cross b a)
+unfolding cross
+cross-swap a b = solve (components (a ∷ b ∷ [])) (crossE (vec 0) (vec 2)) (⊝ crossE (vec 2) (vec 0)) tt
+
+pub dot-swap : (a b : Vector) → dot a b ≡ dot b a
+unfolding dot
+dot-swap a b = solve (components (a ∷ b ∷ [])) (dotE (vec 0) (vec 2)) (dotE (vec 2) (vec 0)) tt
+
+pub side-end : (p q v : Corner) → side p q v ≡ cross (p ⇀ q) (q ⇀ v)
+unfolding cross _⇀_
+side-end p q v = solve (coordinates (p ∷ q ∷ v ∷ [])) (sideE (vec 0) (vec 2) (vec 4)) (crossE (vec 0 ⇀E vec 2) (vec 2 ⇀E vec 4)) tt
+
+pub side-turn : (p q v : Corner) → side p q v ≡ side q v p
+unfolding cross _⇀_
+side-turn p q v = solve (coordinates (p ∷ q ∷ v ∷ [])) (sideE (vec 0) (vec 2) (vec 4)) (sideE (vec 2) (vec 4) (vec 0)) tt
+
+pub side-same : (p v : Corner) → side p p v ≡ pos 0
+unfolding cross _⇀_
+side-same p v = solve (coordinates (p ∷ v ∷ [])) (sideE (vec 0) (vec 0) (vec 2)) O tt
+
+pub cramer-x : (d e f : Vector) → cross e f *ℤ d .x ≡ cross d f *ℤ e .x +ℤ cross e d *ℤ f .x
+unfolding cross
+cramer-x d e f =
+    let d' = vec 0 in let e' = vec 2 in let f' = vec 4 in
+    solve (components (d ∷ e ∷ f ∷ [])) (crossE e' f' ⊗ d' .x) (crossE d' f' ⊗ e' .x ⊕ crossE e' d' ⊗ f' .x) tt
+
+pub cramer-y : (d e f : Vector) → cross e f *ℤ d .y ≡ cross d f *ℤ e .y +ℤ cross e d *ℤ f .y
+unfolding cross
+cramer-y d e f =
+    let d' = vec 0 in let e' = vec 2 in let f' = vec 4 in
+    solve (components (d ∷ e ∷ f ∷ [])) (crossE e' f' ⊗ d' .y) (crossE d' f' ⊗ e' .y ⊕ crossE e' d' ⊗ f' .y) tt
+
+pub cramer-dot : (d e f u : Vector) → cross e f *ℤ dot d u ≡ cross d f *ℤ dot e u +ℤ cross e d *ℤ dot f u
+unfolding cross dot
+cramer-dot d e f u =
+    let d' = vec 0 in let e' = vec 2 in let f' = vec 4 in let u' = vec 6 in
+    solve (components (d ∷ e ∷ f ∷ u ∷ [])) (crossE e' f' ⊗ dotE d' u') (crossE d' f' ⊗ dotE e' u' ⊕ crossE e' d' ⊗ dotE f' u') tt
+
+pub cramer-cross : (d e f g : Vector) → cross e f *ℤ cross g d ≡ cross g f *ℤ cross e d +ℤ cross e g *ℤ cross f d
+unfolding cross
+cramer-cross d e f g =
+    let d' = vec 0 in let e' = vec 2 in let f' = vec 4 in let g' = vec 6 in
+    solve (components (d ∷ e ∷ f ∷ g ∷ [])) (crossE e' f' ⊗ crossE g' d') (crossE g' f' ⊗ crossE e' d' ⊕ crossE e' g' ⊗ crossE f' d') tt
+
+pub lagrange : (a b : Vector) → cross a b *ℤ cross a b +ℤ dot a b *ℤ dot a b ≡ dot a a *ℤ dot b b
+unfolding cross dot
+lagrange a b =
+    let a' = vec 0 in let b' = vec 2 in
+    solve (components (a ∷ b ∷ [])) (crossE a' b' ⊗ crossE a' b' ⊕ dotE a' b' ⊗ dotE a' b') (dotE a' a' ⊗ dotE b' b') tt
+
+-- with the four products as the variables: a square is not negative
+pub cauchy-schwarz : (a b : Vector) → (dot a b *ℤ dot a b) ≤ℤ (dot a a *ℤ dot b b)
+cauchy-schwarz a b =
+    prove (cross a b ∷ dot a b ∷ dot a a ∷ dot b b ∷ []) (var 0 ⊗ var 0 ⊕ var 1 ⊗ var 1 ≗ var 2 ⊗ var 3 ∷ []) (var 1 ⊗ var 1 ≼ var 2 ⊗ var 3)
+    (hyp 0 ⊞ sq (var 0) ⊞ eqn 1 (lit (pos 1))) tt (lagrange a b)

@@ -1,0 +1,6 @@
+-- Laws of the plane, for the proofs here and of the crates above.
+pub mod Algebra
+pub mod Cone
+pub mod Arithmetic
+pub mod Range
+pub mod Tests

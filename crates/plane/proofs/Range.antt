@@ -1,0 +1,45 @@
+-- How large differences and products are.
+--     span-⇀, span-difference     the vector between two points in range is within reach
+--     atMost-cross, atMost-dot    the products of two vectors, from the sizes of their components
+--     atMost-side                 document 01: a side number of points in range is at most 2,048,000,000 in size
+--     dot-nonNeg                  a squared length is not negative
+use mathlib.Core.Path.{_≡_}
+use Prim.Native.Nat.{ℕ, _+_, _*_}
+use lib.Dec.{T}
+use lib.IntN.{ℤ, pos, negsuc, _+ℤ_, _*ℤ_}
+use lib.Signed.{nonNeg}
+use Rattle.integers.specs.Size.{AtMost}
+use Rattle.integers.proofs.Machine.{atMost-+, atMost--, atMost-*}
+use Rattle.plane.specs.Range.{InRange, Span, reach}
+use Rattle.plane.specs.Vector.{_⇀_, cross, dot, side}
+use Rattle.plane.specs.declared.Corner.{Corner}
+use Rattle.plane.specs.declared.Vector.{Vector}
+
+pub span-⇀ : {p q : Corner} → InRange p → InRange q → Span reach (p ⇀ q)
+unfolding _⇀_
+span-⇀ h k = record { x-size = atMost-- (k .x-size) (h .x-size); y-size = atMost-- (k .y-size) (h .y-size) }
+
+-- as a caller of `difference` has it
+pub span-difference : {p q : Corner} {v : Vector} → v ≡ p ⇀ q → InRange p → InRange q → Span reach v
+span-difference e h k = rw e (span-⇀ h k)
+
+pub atMost-cross : {a b : ℕ} {u v : Vector} → Span a u → Span b v → AtMost (a * b + a * b) (cross u v)
+unfolding cross
+atMost-cross h k = atMost-- (atMost-* (h .x-size) (k .y-size)) (atMost-* (h .y-size) (k .x-size))
+
+pub atMost-dot : {a b : ℕ} {u v : Vector} → Span a u → Span b v → AtMost (a * b + a * b) (dot u v)
+unfolding dot
+atMost-dot h k = atMost-+ (atMost-* (h .x-size) (k .x-size)) (atMost-* (h .y-size) (k .y-size))
+
+pub atMost-side : {p q v : Corner} → InRange p → InRange q → InRange v → AtMost 2048000000 (side p q v)
+atMost-side h k l = atMost-cross (span-⇀ h k) (span-⇀ h l)
+
+squares-nonNeg : (x y : ℤ) → T (nonNeg ((x *ℤ x) +ℤ (y *ℤ y)))
+squares-nonNeg (pos a) (pos b) = tt
+squares-nonNeg (pos a) (negsuc b) = tt
+squares-nonNeg (negsuc a) (pos b) = tt
+squares-nonNeg (negsuc a) (negsuc b) = tt
+
+pub dot-nonNeg : (v : Vector) → T (nonNeg (dot v v))
+unfolding dot
+dot-nonNeg v = squares-nonNeg (v .x) (v .y)

@@ -1,0 +1,19 @@
+-- `plane::side` meets its contract: the two products and their difference are exact in 64 bits.
+use Rattle.plane.proofs.Arithmetic.{product-fits, minus-fits, cross-exact}
+use Rattle.plane.proofs.side.Statement.{statement}
+use Rattle.plane.proofs.side.Tie as tie
+
+mul-result : tie.Need-mul-result
+mul-result c = search product-fits
+
+mul-result-2 : tie.Need-mul-result-2
+mul-result-2 c = search product-fits
+
+sub-result : tie.Need-sub-result
+sub-result c = search minus-fits
+
+returns : tie.Need-returns
+returns c = let pre = c .before .before .before .before .before .before .before .before .pre in cross-exact (pre .0) (pre .1)
+
+pub side-spec : {M : Type 1} → statement M
+side-spec = tie.close (tie.spec mul-result mul-result-2 sub-result returns)

@@ -1,0 +1,37 @@
+-- Points and vectors of the plane with whole coordinates.
+--     _⇀_     the vector from a point to another
+--     cross    the cross product: positive where the second vector turns left from the first
+--     dot      the dot product
+--     side     document 01: the side number of a point against an edge
+--     same     two points are the same: the test
+--     coordinates    the list of numbers that gives some points
+use mathlib.Core.Bool.{Bool, _&&_}
+use mathlib.Core.List.{List, [], _∷_}
+use lib.IntN.{ℤ, _+ℤ_, _-ℤ_, _*ℤ_}
+use Rattle.integers.specs.Equal.{eqZ}
+use Rattle.plane.specs.declared.Corner.{Corner}
+use Rattle.plane.specs.declared.Vector.{Vector}
+
+infix 60 _⇀_
+unfoldable pub _⇀_ : Corner → Corner → Vector
+p ⇀ q = record { x = q .x -ℤ p .x; y = q .y -ℤ p .y }
+
+unfoldable pub cross : Vector → Vector → ℤ
+cross a b = (a .x *ℤ b .y) -ℤ (a .y *ℤ b .x)
+
+-- the sum of the products of the x and of the y differences
+unfoldable pub dot : Vector → Vector → ℤ
+dot a b = (a .x *ℤ b .x) +ℤ (a .y *ℤ b .y)
+
+-- of v against the edge from p to q: (qx - px) × (vy - py) - (qy - py) × (vx - px)
+abbrev pub side : Corner → Corner → Corner → ℤ
+side p q v = cross (p ⇀ q) (p ⇀ v)
+
+-- two points are the same point
+unfoldable pub same : Corner → Corner → Bool
+same p q = eqZ (p .x) (q .x) && eqZ (p .y) (q .y)
+
+-- x and y of the first point, then of the second, and so on
+abbrev pub coordinates : List Corner → List ℤ
+coordinates [] = []
+coordinates (p ∷ ps) = p .x ∷ p .y ∷ coordinates ps

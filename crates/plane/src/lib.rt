@@ -1,0 +1,98 @@
+// Points and vectors of the plane with whole coordinates; the side number, from whose sign alone everything above decides.
+ghost use mathlib.Core.Path.{_≡_};
+ghost use Rattle.plane.specs.Vector.{_⇀_, cross, dot, same};
+ghost use Rattle.integers.specs.Equal.{eqZ};
+ghost use Rattle.plane.specs.Range.{Span, reach, isCoordinate, inRange};
+
+// A point with whole coordinates; a corner of an outline.
+pub struct Corner {
+    pub x: i32,
+    pub y: i32,
+}
+
+// The signed differences of two points.
+pub struct Vector {
+    pub x: i64,
+    pub y: i64,
+}
+
+// The vector from p to q.
+pub fn difference(p: Corner, q: Corner) -> Vector
+    ensures { λ r. ⌜ r ≡ p ⇀ q ⌝ }
+{
+    let px = p.x as i64;
+    let py = p.y as i64;
+    let qx = q.x as i64;
+    let qy = q.y as i64;
+    Vector {
+        x: qx - px,
+        y: qy - py,
+    }
+}
+
+// Document 01: the side number of the point at `to` from the edge's start, where the edge has the differences `edge`.
+// Of two edges it is the number whose sign orders their directions.
+pub fn side(edge: Vector, to: Vector) -> i64
+    requires { ⌜ Span reach edge ⌝ }
+    requires { ⌜ Span reach to ⌝ }
+    ensures { λ r. ⌜ r ≡ cross edge to ⌝ }
+{
+    edge.x * to.y - edge.y * to.x
+}
+
+// The dot product.
+pub fn dot(a: Vector, b: Vector) -> i64
+    requires { ⌜ Span reach a ⌝ }
+    requires { ⌜ Span reach b ⌝ }
+    ensures { λ r. ⌜ r ≡ dot a b ⌝ }
+{
+    a.x * b.x + a.y * b.y
+}
+
+// The squared length of a vector.
+pub fn squared_length(a: Vector) -> i64
+    requires { ⌜ Span reach a ⌝ }
+    ensures { λ r. ⌜ r ≡ dot a a ⌝ }
+{
+    dot(a, a)
+}
+
+// The largest size of a coordinate.
+const LIMIT: i32 = 16000;
+
+fn is_coordinate(z: i32) -> bool
+    ensures { λ r. ⌜ r ≡ isCoordinate z ⌝ }
+{
+    if z < -LIMIT {
+        return false;
+    }
+    z <= LIMIT
+}
+
+// Whether a point's coordinates are in range.
+pub fn in_range(p: Corner) -> bool
+    ensures { λ r. ⌜ r ≡ inRange p ⌝ }
+{
+    if is_coordinate(p.x) {
+        is_coordinate(p.y)
+    } else {
+        false
+    }
+}
+
+fn equal(a: i32, b: i32) -> bool
+    ensures { λ r. ⌜ r ≡ eqZ a b ⌝ }
+{
+    a == b
+}
+
+// Whether two points are the same.
+pub fn same(p: Corner, q: Corner) -> bool
+    ensures { λ r. ⌜ r ≡ same p q ⌝ }
+{
+    if equal(p.x, q.x) {
+        equal(p.y, q.y)
+    } else {
+        false
+    }
+}
