@@ -1,2 +1,4 @@
 -- Laws of editing.
 pub mod Without
+pub mod Writing
+pub mod Removal

@@ -1,6 +1,5 @@
 -- The list without corner k.
---     kept k i                           the number that the i-th of the other corners has in the list: i before k, i + 1 from k on
---     kept-before, kept-after            so it is
+--     kept-before, kept-after            `kept k i` is i before k, and i + 1 from k on
 --     kept-mono, kept-≤                  it rises with i, and is at most i + 1
 --     length-without, corner-without     one corner fewer; the i-th is corner `kept k i`
 --     without-convex, without-accepted   it is strictly convex as the list is; accepted as the list is, if four corners or more
@@ -12,13 +11,8 @@ use lib.ListN.{length, length-append, length-take, length-drop}
 use Rattle.plane.specs.declared.Corner.{Corner}
 use Rattle.outline.specs.Corners.{corner}
 use Rattle.outline.specs.Convex.{StrictlyConvex, Accepted}
-use Rattle.edit.specs.Removal.{without}
+use Rattle.edit.specs.Removal.{without, kept}
 use Rattle.outline.proofs.LeftTurns.{convex-turns, turns-convex}
-
-abbrev pub kept : ℕ → ℕ → ℕ
-kept zero i = suc i
-kept (suc k) zero = zero
-kept (suc k) (suc i) = suc (kept k i)
 
 pub kept-before : (k i : ℕ) → i < k → kept k i ≡ i
 kept-before zero i h = absurd (omega arith)

@@ -1,10 +1,49 @@
--- Removing a corner.
---     without k    the other corners in their order
-use Prim.Native.Nat.{ℕ, suc}
+-- Document 01: dropping a corner.
+--     without      the other corners in their order
+--     kept         the number in the longer list of the i-th of them
+--     removal      the checks, in document 01's order
+--     listAfter    the list to write, after the call
+--     Removable    what writing needs
+--     putCorner    a list with a corner written as its corner j
+use Prim.Native.Nat.{ℕ, zero, suc, _+_, _*_, _<_}
+use mathlib.Core.Path.{_≡_}
+use mathlib.Core.Bool.{not}
 use mathlib.Core.List.{List, _++_}
-use lib.ListN.{take, drop}
+use lib.Dec.{leb, eqb}
+use lib.IntN.{ℤ}
+use lib.ListN.{length, take, drop, set}
 use Rattle.plane.specs.declared.Corner.{Corner}
+use Rattle.plane.specs.Vector.{coordinates}
+use Rattle.outline.specs.declared.Check.{Check}
+use Rattle.outline.specs.declared.Check.the-variants.{Passed, Failed}
+use Rattle.outline.specs.declared.Fault.the-variants.{TooFewCorners, NoSuchCorner, WrongLength}
+use Rattle.outline.specs.Checks.{failIf, _orElse_}
+use Rattle.outline.specs.Corners.{corners}
+use Rattle.outline.specs.Reading.{check}
 
--- the other corners in their order
 unfoldable pub without : ℕ → List Corner → List Corner
 without k cs = take k cs ++ drop (suc k) cs
+
+abbrev pub kept : ℕ → ℕ → ℕ
+kept zero i = suc i
+kept (suc k) zero = zero
+kept (suc k) (suc i) = suc (kept k i)
+
+-- 1 to 6 of the list `s`, then 8, no corner has that number, then 2, the outline has just 3 corners, then 9, the list to write,
+-- of length `room`, is not exactly as long as what remains
+unfoldable pub removal : List ℤ → ℕ → ℕ → Check
+removal s k room =
+    check s orElse failIf (leb (length (corners s)) k) NoSuchCorner orElse failIf (eqb (length (corners s)) 3) TooFewCorners orElse failIf (not (eqb room (length (coordinates (without k (corners s)))))) WrongLength
+
+-- what remains, or as it was where the call is refused
+abbrev pub listAfter : Check → List ℤ → List ℤ → List ℤ
+listAfter Passed before remains = remains
+listAfter (Failed f) before remains = before
+
+-- what writing needs: the list has corner k, and what remains fills the list to write
+pub record Removable (s : List ℤ) (k : ℕ) (out : List ℤ) : Type 0 where
+  pub known : k < length (corners s)
+  pub long : length out ≡ length (coordinates (without k (corners s)))
+
+abbrev pub putCorner : List ℤ → ℕ → Corner → List ℤ
+putCorner s j c = set (set s (2 * j) (c .x)) (2 * j + 1) (c .y)

@@ -5,8 +5,10 @@
 --     length-corners                 two numbers to a corner
 --     corners-fit, corners-fill      all corners lie in the list; in an even list no number is left over
 --     corner-at                      document 01: corner i is numbers 2 i and 2 i + 1
+--     length-coordinates, coordinate-x, coordinate-y    the same for corners written as numbers
+--     corners-coordinates            corners written as numbers and read again are the same corners
 use Prim.Native.Nat.{ℕ, zero, suc, _+_, _*_, _/_, _%_, _<_, _≤_}
-use mathlib.Core.Path.{_≡_, refl}
+use mathlib.Core.Path.{_≡_, refl, ap}
 use mathlib.Core.Logic.{_≢_, _⊎_, inl, inr, ⊎-elim}
 use mathlib.Core.Bool.{Bool, true, false}
 use mathlib.Core.List.{List, [], _∷_}
@@ -15,6 +17,8 @@ use borrow.Author.Tests.{lt-ltb, le-ltb, ltb-true, ltb-false}
 use lib.Dec.{ltb}
 use lib.IntN.{ℤ, pos}
 use lib.ListN.{length, getD}
+use Rattle.plane.specs.declared.Corner.{Corner}
+use Rattle.plane.specs.Vector.{coordinates}
 use Rattle.outline.specs.Corners.{corners, corner, next}
 
 module _ (n i : ℕ) where
@@ -57,15 +61,35 @@ corners-fit s = omega (arith, length-corners s)
 pub corners-fill : (s : List ℤ) → length s % 2 ≡ 0 → 2 * length (corners s) ≡ length s
 corners-fill s even = omega (arith, length-corners s)
 
+twice-suc : (i : ℕ) → 2 * suc i ≡ suc (suc (2 * i))
+twice-suc i = omega arith
+
+twice-suc-one : (i : ℕ) → suc (suc (2 * i)) + 1 ≡ suc (suc (2 * i + 1))
+twice-suc-one i = omega arith
+
 pub corner-at : (s : List ℤ) (i : ℕ) → i < length (corners s) → corner (corners s) i ≡ record { x = getD s (2 * i) (pos 0); y = getD s (2 * i + 1) (pos 0) }
 unfolding corners
 corner-at [] i below = refl
 corner-at (x ∷ []) i below = absurd (omega arith)
 corner-at (x ∷ (y ∷ s)) zero below = refl
-corner-at (x ∷ (y ∷ s)) (suc i) below = rw (even, odd) (corner-at s i (omega arith))
-  where
-    even : 2 * suc i ≡ suc (suc (2 * i))
-    even = omega arith
+corner-at (x ∷ (y ∷ s)) (suc i) below = rw (twice-suc i, twice-suc-one i) (corner-at s i (omega arith))
 
-    odd : suc (suc (2 * i)) + 1 ≡ suc (suc (2 * i + 1))
-    odd = omega arith
+-- a list of corners, written as numbers
+pub length-coordinates : (cs : List Corner) → length (coordinates cs) ≡ 2 * length cs
+length-coordinates [] = refl
+length-coordinates (c ∷ cs) = omega (arith, length-coordinates cs)
+
+pub corners-coordinates : (cs : List Corner) → corners (coordinates cs) ≡ cs
+unfolding corners
+corners-coordinates [] = refl
+corners-coordinates (c ∷ cs) = ap (λ (r : List Corner). c ∷ r) (corners-coordinates cs)
+
+pub coordinate-x : (cs : List Corner) (i : ℕ) → getD (coordinates cs) (2 * i) (pos 0) ≡ corner cs i .x
+coordinate-x [] i = refl
+coordinate-x (c ∷ cs) zero = refl
+coordinate-x (c ∷ cs) (suc i) = rw (twice-suc i) (coordinate-x cs i)
+
+pub coordinate-y : (cs : List Corner) (i : ℕ) → getD (coordinates cs) (2 * i + 1) (pos 0) ≡ corner cs i .y
+coordinate-y [] i = refl
+coordinate-y (c ∷ cs) zero = refl
+coordinate-y (c ∷ cs) (suc i) = rw (twice-suc i, twice-suc-one i) (coordinate-y cs i)

@@ -2,7 +2,9 @@
 --     AllPass                        the checks at all numbers below n pass
 --     First                          the check at some number below n fails so, and all before it pass
 --     each-passed, each-failed       `each` passes exactly where all checks pass, and fails so exactly where there is such a first check
---     first-lowest, lowest-first     where a check fails exactly where something holds, the first to fail is the lowest of which it holds
+--     each-none, each-lowest         where a check fails exactly where something holds: it holds nowhere below n; its lowest place
+--     failIf-passed, failIf-failed, test-fails, test-lowest    the same for a check that a test makes
+--     orElse-passed                  two checks pass exactly where both do
 use Prim.Native.Nat.{ℕ, zero, suc, _-_, _<_, _≤_}
 use mathlib.Core.Path.{_≡_, refl, ap, subst, _∙_}
 use mathlib.Core.Logic.{_↔_, Iff·trans, _⊎_, inl, inr, ⊎-elim}
@@ -14,7 +16,7 @@ use Rattle.integers.proofs.Reflect.{test-false}
 use Rattle.outline.specs.declared.Check.{Check}
 use Rattle.outline.specs.declared.Fault.{Fault}
 use Rattle.outline.specs.declared.Check.the-variants.{Passed, Failed}
-use Rattle.outline.specs.Checks.{each, failIf}
+use Rattle.outline.specs.Checks.{_orElse_, each, failIf}
 use Rattle.outline.specs.Applies.{Lowest}
 use Rattle.outline.proofs.ChecksLaws.{each-goes-on, each-stops, each-ends}
 
@@ -104,10 +106,14 @@ module _ {P : ℕ → Type 0} {check : ℕ → Check} (decides : FailsWhere P ch
       first : (i : ℕ) × (check i ≡ Failed f) × Lowest P n i → First check n f
       first (i, fails, low) = record { place = i; below = low .below; fails = fails; earlier = λ j lower. passes j (low .lowest j lower) }
 
+pub orElse-passed : (c d : Check) → (c orElse d ≡ Passed) ↔ ((c ≡ Passed) × (d ≡ Passed))
+orElse-passed Passed d = (λ e. (refl, e), λ both. both .1)
+orElse-passed (Failed f) d = (λ e. absurd (passed≢failed e refl), λ both. both .0)
+
 -- ---- checks that tests make
 
 module _ {P : Type 0} where
-  failIf-passed : (b : Bool) → ((b ≡ true) ↔ P) → (f : Fault) → (failIf b f ≡ Passed) ↔ (¬ P)
+  pub failIf-passed : (b : Bool) → ((b ≡ true) ↔ P) → (f : Fault) → (failIf b f ≡ Passed) ↔ (¬ P)
   failIf-passed b means f = Iff·trans (passed-false b) (test-false b means)
     where
       passed-false : (b : Bool) → (failIf b f ≡ Passed) ↔ (b ≡ false)

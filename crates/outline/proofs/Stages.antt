@@ -36,13 +36,13 @@ stages s =
 abbrev pub stage : List ℤ → ℕ → Check
 stage s k = getD (stages s) k Passed
 
-orElse-passed : (c : Check) → c orElse Passed ≡ c
-orElse-passed Passed = refl
-orElse-passed (Failed f) = refl
+passed-after : (c : Check) → c orElse Passed ≡ c
+passed-after Passed = refl
+passed-after (Failed f) = refl
 
 pub check-stages : (s : List ℤ) → check s ≡ each (stage s) 6 0
 unfolding check each
-check-stages s = rw (orElse-passed (notLeft (corners s)))
+check-stages s = rw (passed-after (notLeft (corners s)))
 
 -- ---- the tests of corners, their meanings, and what the checks made of them find
 other-true : (a b : ℕ) → (not (eqb a b) ≡ true) ↔ (a ≢ b)

@@ -20,8 +20,8 @@ ghost use Rattle.outline.specs.Checks.{_orElse_};
 ghost use Rattle.outline.specs.Corners.{corners, corner};
 ghost use Rattle.outline.specs.Reading.{oddLength, tooFew, tooMany, outOfRange, repeated, notLeftOf, notLeft, check};
 
-// The fewest corners of an outline.
-const FEWEST: usize = 3;
+// How few corners an outline can have.
+pub const FEWEST: usize = 3;
 
 // 1, 2 and 3: the length of the list.
 pub fn check_count(s: &[i32]) -> Check
