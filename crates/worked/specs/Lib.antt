@@ -1,0 +1,2 @@
+-- Document 01, "Worked fits".
+pub mod Cases
