@@ -1,13 +1,13 @@
 -- The size of whole numbers, and signed machine arithmetic that stays within computed bounds, at any width.
 --     natAbs-neg, natAbs-+, natAbs-*     the size of a negation, a sum, a product
---     atMost-le, atMost-neg, atMost-+, atMost--, atMost-*     the same for bounds: a larger bound, and computed ones
+--     atMost-neg, atMost-+, atMost--, atMost-*     the same for bounds
 --     held w z, i32, i64      z as a local or field of the width holds it: written as bits and read back
 --     Exact b z e             the machine's expression e is exactly the whole number z, which is at most b in size
---     value, field, literal   an expression starts from a known bound, from a value of its type, from a literal
+--     value, field            an expression starts from a known bound, from a value of its type
 --     stored                  it is held in a local, perhaps wider: so a widening cast too
 --     plus, minus, times      the operations
 --     fits                    it ends: the result fits its type. That it is z is `stored w r tt .exact`
---     size-fits, same-bits    it is cast to an unsigned type, or compared by `==`
+--     size-fits               a number that is not negative is cast to an unsigned type
 -- Each test `T (ltb bound (2 ^ ..))` computes, and is answered by `tt`.
 use mathlib.Core.Path.{_≡_, refl, sym, _∙_, ap}
 use mathlib.Core.Bool.{Bool, true, false, cond}
@@ -54,9 +54,6 @@ mag-natAbs (negsuc n) = omega arith
 
 -- bounds
 
-pub atMost-le : {a b : ℕ} {z : ℤ} → a ≤ b → AtMost a z → AtMost b z
-atMost-le h k = record { size = le-trans (k .size) h }
-
 pub atMost-neg : {b : ℕ} {z : ℤ} → AtMost b z → AtMost b (negℤ z)
 atMost-neg {b} {z} h = record { size = rw natAbs-neg (h .size) }
 
@@ -88,9 +85,6 @@ pub record Exact (b : ℕ) (z e : ℤ) : Type 0 where
 pub value : {b : ℕ} {z : ℤ} → AtMost b z → Exact b z z
 value h = record { bound = h; exact = refl }
 
-pub literal : (z : ℤ) → Exact (natAbs z) z z
-literal z = value (record { size = le-refl (natAbs z) })
-
 pub field : {w : Width} {z : ℤ} → SFits w z → Exact (2 ^ hbits w) z (held w z)
 field {w} {z} f = record { bound = record { size = natAbs-le z (f .sfits) }; exact = toZ-ofZ w z f }
 
@@ -115,7 +109,3 @@ stored {e} w r t = record { bound = r .bound; exact = toZ-ofZ w e (fits r t) ∙
 pub size-fits : {w : Width} {b : ℕ} {z e : ℤ} → Exact b z e → T (nonNeg z) → T (ltb b (2 ^ bits w)) → T (nonNeg e) × Fits w (natAbs e)
 size-fits {w} {b} r h t =
     rw (r .exact) (h, record { fits = lt-of-le-of-lt (r .bound .size) (ltb→lt b (2 ^ bits w) t) })
-
--- what `==` on two locals tells
-pub same-bits : {a b : ℕ} {y z d e : ℤ} (w : Width) → Exact a y d → Exact b z e → T (ltb a (2 ^ hbits w)) → T (ltb b (2 ^ hbits w)) → ofZ w d ≡ ofZ w e → y ≡ z
-same-bits w r s t u q = sym (stored w r t .exact) ∙ ap (toZ w) q ∙ stored w s u .exact

@@ -8,7 +8,7 @@
 -- of monomials is ever compared: an identity of degree 4 in 8 variables with 330 monomials takes about a tenth of a second.
 use mathlib.Core.Path.{_≡_, refl, sym, _∙_, ap, ap₂}
 use mathlib.Core.Bool.{Bool, true, false, _&&_}
-use mathlib.Core.List.{List, [], _∷_}
+use mathlib.Core.List.{List}
 use Prim.Native.Nat.{ℕ, zero, suc, compare, Ordering, Ordering·lt, Ordering·eq, Ordering·gt}
 use lib.Dec.{T, isEq, eqb→eq}
 use mir.Facts.{and-yes}

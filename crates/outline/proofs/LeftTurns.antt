@@ -15,7 +15,7 @@ use Rattle.plane.specs.declared.Corner.{Corner}
 use Rattle.plane.specs.Vector.{side}
 use Rattle.plane.proofs.Algebra.{side-turn}
 use Rattle.plane.proofs.Cone.{left-of-chord}
-use Rattle.outline.specs.Corners.{corner, next}
+use Rattle.outline.specs.Corners.{corner}
 use Rattle.outline.specs.Convex.{StrictlyConvex}
 use Rattle.outline.proofs.CornersLaws.{next-suc, next-last}
 

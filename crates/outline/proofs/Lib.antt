@@ -5,3 +5,5 @@ pub mod First
 pub mod Stages
 pub mod Acceptance
 pub mod LeftTurns
+pub mod HeldLaws
+pub mod RefusalLaws

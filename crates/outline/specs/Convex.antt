@@ -2,7 +2,6 @@
 --     StrictlyConvex    every corner other than an edge's two ends is strictly left of the edge
 --     Accepted          document 01: an outline is accepted
 use Prim.Native.Nat.{ℕ, _≤_, _<_}
-use mathlib.Core.Path.{_≡_}
 use mathlib.Core.Logic.{_≢_}
 use mathlib.Core.List.{List}
 use lib.IntN.{pos}

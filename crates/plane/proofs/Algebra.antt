@@ -9,6 +9,7 @@
 --     side-same                       against an edge from a point to itself it is 0
 --     cramer-x, cramer-y              cross e f times d is cross d f times e plus cross e d times f, in each component
 --     cramer-dot, cramer-cross        the same, dotted with u; crossed with g
+--     dot-self                        a squared length is not negative
 --     lagrange, cauchy-schwarz        cross² + dot² is the product of the squared lengths; so dot² is at most that
 use Prim.Native.Nat.{ℕ, suc}
 use mathlib.Core.Path.{_≡_}
@@ -91,6 +92,11 @@ unfolding cross
 cramer-cross d e f g =
     let d' = vec 0 in let e' = vec 2 in let f' = vec 4 in let g' = vec 6 in
     solve (components (d ∷ e ∷ f ∷ g ∷ [])) (crossE e' f' ⊗ crossE g' d') (crossE g' f' ⊗ crossE e' d' ⊕ crossE e' g' ⊗ crossE f' d') tt
+
+pub dot-self : (a : Vector) → pos 0 ≤ℤ dot a a
+unfolding dot
+dot-self a =
+    prove (components (a ∷ [])) [] (O ≼ dotE (vec 0) (vec 0)) (hyp 0 ⊞ sq (vec 0 .x) ⊞ sq (vec 0 .y)) tt
 
 pub lagrange : (a b : Vector) → cross a b *ℤ cross a b +ℤ dot a b *ℤ dot a b ≡ dot a a *ℤ dot b b
 unfolding cross dot

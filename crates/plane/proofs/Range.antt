@@ -2,14 +2,14 @@
 --     span-⇀, span-difference     the vector between two points in range is within reach
 --     atMost-cross, atMost-dot    the products of two vectors, from the sizes of their components
 --     atMost-side                 document 01: a side number of points in range is at most 2,048,000,000 in size
---     dot-nonNeg                  a squared length is not negative
+--     square-fits                 so its square fits 64 bits
 use mathlib.Core.Path.{_≡_}
 use Prim.Native.Nat.{ℕ, _+_, _*_}
-use lib.Dec.{T}
-use lib.IntN.{ℤ, pos, negsuc, _+ℤ_, _*ℤ_}
-use lib.Signed.{nonNeg}
+use lib.IntN.{_*ℤ_}
+use mir.Syntax.{w64}
+use mir.Val.{SFits}
 use Rattle.integers.specs.Size.{AtMost}
-use Rattle.integers.proofs.Machine.{atMost-+, atMost--, atMost-*}
+use Rattle.integers.proofs.Machine.{atMost-+, atMost--, atMost-*, value, times, fits}
 use Rattle.plane.specs.Range.{InRange, Span, reach}
 use Rattle.plane.specs.Vector.{_⇀_, cross, dot, side}
 use Rattle.plane.specs.declared.Corner.{Corner}
@@ -34,12 +34,5 @@ atMost-dot h k = atMost-+ (atMost-* (h .x-size) (k .x-size)) (atMost-* (h .y-siz
 pub atMost-side : {p q v : Corner} → InRange p → InRange q → InRange v → AtMost 2048000000 (side p q v)
 atMost-side h k l = atMost-cross (span-⇀ h k) (span-⇀ h l)
 
-squares-nonNeg : (x y : ℤ) → T (nonNeg ((x *ℤ x) +ℤ (y *ℤ y)))
-squares-nonNeg (pos a) (pos b) = tt
-squares-nonNeg (pos a) (negsuc b) = tt
-squares-nonNeg (negsuc a) (pos b) = tt
-squares-nonNeg (negsuc a) (negsuc b) = tt
-
-pub dot-nonNeg : (v : Vector) → T (nonNeg (dot v v))
-unfolding dot
-dot-nonNeg v = squares-nonNeg (v .x) (v .y)
+pub square-fits : {p q v : Corner} → InRange p → InRange q → InRange v → SFits w64 (side p q v *ℤ side p q v)
+square-fits h k l = let z = value (atMost-side h k l) in fits (times z z) tt

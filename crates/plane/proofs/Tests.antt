@@ -1,36 +1,29 @@
 -- The tests of points and their meanings.
---     inRange-true, inRange-false    `inRange` holds exactly of points in range, and fails exactly of others
---     same-true, same-false          `same` holds exactly of equal points, and fails exactly of others
+--     inRange-true    `inRange` holds exactly of points in range
+--     same-true       `same` holds exactly of equal points
 use mathlib.Core.Path.{_≡_, ap}
-use mathlib.Core.Logic.{_↔_, _≢_}
-use mathlib.Core.Bool.{true, false}
-use lib.Dec.{leb}
+use mathlib.Core.Logic.{_↔_}
+use mathlib.Core.Bool.{true}
 use lib.IntN.{ℤ, natAbs}
 use Rattle.integers.specs.Equal.{eqZ}
 use Rattle.integers.specs.Size.{AtMost}
-use Rattle.integers.proofs.Reflect.{test-false, test-and, test-leb}
+use Rattle.integers.proofs.Reflect.{test-and, test-leb}
 use Rattle.integers.proofs.Equal.{eqZ-true}
 use Rattle.plane.specs.declared.Corner.{Corner}
-use Rattle.plane.specs.Range.{InRange, inRange, limit}
+use Rattle.plane.specs.Range.{InRange, isCoordinate, inRange, limit}
 use Rattle.plane.specs.Vector.{same}
 
-in-limit : (z : ℤ) → (leb (natAbs z) limit ≡ true) ↔ AtMost limit z
+in-limit : (z : ℤ) → (isCoordinate z ≡ true) ↔ AtMost limit z
 in-limit z = (λ e. record { size = test-leb (natAbs z) limit .0 e }, λ h. test-leb (natAbs z) limit .1 (h .size))
 
 pub inRange-true : (p : Corner) → (inRange p ≡ true) ↔ InRange p
 unfolding inRange
 inRange-true p =
-    let both = test-and (leb (natAbs (p .x)) limit) (leb (natAbs (p .y)) limit) (in-limit (p .x)) (in-limit (p .y)) in
+    let both = test-and (isCoordinate (p .x)) (isCoordinate (p .y)) (in-limit (p .x)) (in-limit (p .y)) in
     (λ e. record { x-size = both .0 e .0; y-size = both .0 e .1 }, λ h. both .1 (h .x-size, h .y-size))
-
-pub inRange-false : (p : Corner) → (inRange p ≡ false) ↔ (¬ InRange p)
-inRange-false p = test-false (inRange p) (inRange-true p)
 
 pub same-true : (p q : Corner) → (same p q ≡ true) ↔ (p ≡ q)
 unfolding same
 same-true p q =
     let both = test-and (eqZ (p .x) (q .x)) (eqZ (p .y) (q .y)) (eqZ-true (p .x) (q .x)) (eqZ-true (p .y) (q .y)) in
     (λ e. λ i. record { x = both .0 e .0 i; y = both .0 e .1 i }, λ e. both .1 (ap (λ (r : Corner). r .x) e, ap (λ (r : Corner). r .y) e))
-
-pub same-false : (p q : Corner) → (same p q ≡ false) ↔ (p ≢ q)
-same-false p q = test-false (same p q) (same-true p q)

@@ -1,8 +1,6 @@
 -- `outline::checks::check_count` makes the three tests of the length in order.
 use borrow.Author.Needs.{needs}
 use borrow.Author.Tests.{eq-eqb, ne-eqb, lt-ltb, le-ltb}
-use mathlib.Core.Path.{_≡_, sym, ap, _∙_}
-use native.Mathlib.Omega.{arith}
 use Rattle.outline.proofs.checks.check_count.Statement.{statement}
 use Rattle.outline.proofs.checks.check_count.Tie as tie
 
