@@ -1,8 +1,8 @@
 // Editing the corner list of an outline: removing a corner.
 use outline::Check;
+use outline::FEWEST;
 use outline::Fault;
 use outline::checks;
-use outline::checks::FEWEST;
 use outline::corners;
 use plane::Corner;
 ghost use mathlib.Core.Path.{_≡_};

@@ -1,7 +1,8 @@
 // The checks of a list, in document 01's order. Each says which corner or edge fails it first.
 use crate::Check;
+use crate::FEWEST;
 use crate::Fault;
-use crate::corners::MOST;
+use crate::MOST;
 use crate::corners::corner;
 use crate::corners::count;
 use crate::corners::next;
@@ -20,11 +21,8 @@ ghost use Rattle.outline.specs.Checks.{_orElse_};
 ghost use Rattle.outline.specs.Corners.{corners, corner};
 ghost use Rattle.outline.specs.Reading.{oddLength, tooFew, tooMany, outOfRange, repeated, notLeftOf, notLeft, check};
 
-// How few corners an outline can have.
-pub const FEWEST: usize = 3;
-
 // 1, 2 and 3: the length of the list.
-pub fn check_count(s: &[i32]) -> Check
+fn check_count(s: &[i32]) -> Check
     ensures { λ r. ⌜ r ≡ oddLength (now (s .entry)) orElse tooFew (corners (now (s .entry))) orElse tooMany (corners (now (s .entry))) ⌝ }
 {
     if s.len() % 2 == 1 {
@@ -41,7 +39,7 @@ pub fn check_count(s: &[i32]) -> Check
 }
 
 // 4: the first corner that is out of range.
-pub fn check_range(s: &[i32]) -> Check
+fn check_range(s: &[i32]) -> Check
     ensures { λ r. ⌜ r ≡ outOfRange (corners (now (s .entry))) ⌝ }
 {
     let n = count(s);
@@ -56,7 +54,7 @@ pub fn check_range(s: &[i32]) -> Check
 }
 
 // 5: the first corner that is equal to the following one.
-pub fn check_repeated(s: &[i32]) -> Check
+fn check_repeated(s: &[i32]) -> Check
     ensures { λ r. ⌜ r ≡ repeated (corners (now (s .entry))) ⌝ }
 {
     let n = count(s);
@@ -87,7 +85,7 @@ fn is_not_left(e: usize, f: usize, p: Corner, edge: Vector, c: usize, v: Corner)
 }
 
 // 6, for edge e alone: the first corner that is not strictly left of it.
-pub fn check_edge(s: &[i32], e: usize) -> Check
+fn check_edge(s: &[i32], e: usize) -> Check
     requires { ⌜ e < length (corners (now s)) ⌝ }
     requires { ⌜ ((i : ℕ) → i < length (corners (now s)) → InRange (corner (corners (now s)) i)) ⌝ }
     ensures { λ r. ⌜ r ≡ notLeftOf (corners (now (s .entry))) e ⌝ }
@@ -107,7 +105,7 @@ pub fn check_edge(s: &[i32], e: usize) -> Check
 }
 
 // 6: the first edge that some corner is not strictly left of, and the first such corner.
-pub fn check_convex(s: &[i32]) -> Check
+fn check_convex(s: &[i32]) -> Check
     requires { ⌜ ((i : ℕ) → i < length (corners (now s)) → InRange (corner (corners (now s)) i)) ⌝ }
     ensures { λ r. ⌜ r ≡ notLeft (corners (now (s .entry))) ⌝ }
 {

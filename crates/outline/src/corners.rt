@@ -1,4 +1,5 @@
 // The corners that a list of numbers gives, and the value that holds them.
+use crate::MOST;
 use crate::Outline;
 use plane::Corner;
 ghost use mathlib.Core.Path.{_≡_};
@@ -6,9 +7,6 @@ ghost use mathlib.Core.List.{[]};
 ghost use Prim.Native.Nat.{_<_, _≤_};
 ghost use lib.ListN.{length};
 ghost use Rattle.outline.specs.Corners.{corners, corner, next, held, most};
-
-// How many corners an outline can hold.
-pub const MOST: usize = 256;
 
 // How many corners a list gives.
 pub fn count(s: &[i32]) -> usize
@@ -42,7 +40,7 @@ pub fn none() -> Outline
 {
     Outline {
         count: 0,
-        corners: [Corner { x: 0, y: 0 }; 256],
+        corners: [Corner { x: 0, y: 0 }; MOST],
     }
 }
 
@@ -52,7 +50,7 @@ pub fn hold(s: &[i32]) -> Outline
     ensures { λ r. ⌜ r ≡ held (corners (now (s .entry))) ⌝ }
 {
     let n = count(s);
-    let mut places = [Corner { x: 0, y: 0 }; 256];
+    let mut places = [Corner { x: 0, y: 0 }; MOST];
     let mut i = 0;
     while i < n {
         places[i] = corner(s, i);

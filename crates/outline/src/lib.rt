@@ -7,10 +7,15 @@ use plane::Corner;
 ghost use mathlib.Core.Path.{_≡_};
 ghost use Rattle.outline.specs.Reading.{reading};
 
+// How few and how many corners an outline can have.
+pub const FEWEST: usize = 3;
+
+pub const MOST: usize = 256;
+
 // An outline as one value: how many corners it has, and places for 256 of them, the unused ones zero.
 pub struct Outline {
     pub count: usize,
-    pub corners: [Corner; 256],
+    pub corners: [Corner; MOST],
 }
 
 // What is wrong with what a call was handed, with its place. `specs/Refusal.antt` has document 01's number for each.

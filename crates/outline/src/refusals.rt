@@ -1,15 +1,13 @@
-// From what a check finds to a refusal.
-use crate::Check;
+// From a fault to its refusal.
 use crate::Fault;
-use crate::Outcome;
 use crate::Place;
 use crate::Refusal;
 use crate::RefusedSide;
 ghost use mathlib.Core.Path.{_≡_};
-ghost use Rattle.outline.specs.Refusal.{number, place, refusal, outcome};
+ghost use Rattle.outline.specs.Refusal.{number, place, refusal};
 
 // Document 01's number of a fault.
-pub fn number(f: Fault) -> u32
+fn number(f: Fault) -> u32
     ensures { λ r. ⌜ r ≡ number f ⌝ }
 {
     match f {
@@ -25,7 +23,7 @@ pub fn number(f: Fault) -> u32
 }
 
 // Document 01's place of a fault.
-pub fn place(f: Fault) -> Place
+fn place(f: Fault) -> Place
     ensures { λ r. ⌜ r ≡ place f ⌝ }
 {
     match f {
@@ -48,15 +46,5 @@ pub fn refusal(side: RefusedSide, f: Fault) -> Refusal
         number: number(f),
         side: side,
         place: place(f),
-    }
-}
-
-// How a call ends whose checks found this.
-pub fn outcome(side: RefusedSide, found: Check) -> Outcome
-    ensures { λ r. ⌜ r ≡ outcome side found ⌝ }
-{
-    match found {
-        Check::Passed => Outcome::Done,
-        Check::Failed(f) => Outcome::Refused(refusal(side, f)),
     }
 }
