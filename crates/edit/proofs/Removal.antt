@@ -16,7 +16,7 @@ use Rattle.plane.specs.Vector.{coordinates}
 use Rattle.outline.specs.declared.Check.the-variants.{Passed}
 use Rattle.outline.specs.declared.Fault.the-variants.{TooFewCorners, NoSuchCorner, WrongLength}
 use Rattle.outline.specs.Checks.{failIf}
-use Rattle.outline.specs.Corners.{corners}
+use Rattle.outline.specs.Corners.{corners, fewest}
 use Rattle.outline.specs.Reading.{check}
 use Rattle.outline.proofs.Acceptance.{accepted}
 use Rattle.outline.proofs.CornersLaws.{length-coordinates, corners-coordinates}
@@ -28,7 +28,7 @@ use Rattle.edit.proofs.Without.{without-accepted}
 pub record Permitted (s : List ℤ) (k room : ℕ) : Type 0 where
   pub taken : check s ≡ Passed
   pub known : k < length (corners s)
-  pub more : length (corners s) ≢ 3
+  pub more : length (corners s) ≢ fewest
   pub long : room ≡ length (coordinates (without k (corners s)))
 
 module _ (s : List ℤ) (k room : ℕ) where

@@ -18,7 +18,7 @@ use Rattle.outline.specs.declared.Check.{Check}
 use Rattle.outline.specs.declared.Check.the-variants.{Passed, Failed}
 use Rattle.outline.specs.declared.Fault.the-variants.{TooFewCorners, NoSuchCorner, WrongLength}
 use Rattle.outline.specs.Checks.{failIf, _orElse_}
-use Rattle.outline.specs.Corners.{corners}
+use Rattle.outline.specs.Corners.{corners, fewest}
 use Rattle.outline.specs.Reading.{check}
 
 unfoldable pub without : ℕ → List Corner → List Corner
@@ -33,7 +33,7 @@ kept (suc k) (suc i) = suc (kept k i)
 -- of length `room`, is not exactly as long as what remains
 unfoldable pub removal : List ℤ → ℕ → ℕ → Check
 removal s k room =
-    check s orElse failIf (leb (length (corners s)) k) NoSuchCorner orElse failIf (eqb (length (corners s)) 3) TooFewCorners orElse failIf (not (eqb room (length (coordinates (without k (corners s)))))) WrongLength
+    check s orElse failIf (leb (length (corners s)) k) NoSuchCorner orElse failIf (eqb (length (corners s)) fewest) TooFewCorners orElse failIf (not (eqb room (length (coordinates (without k (corners s)))))) WrongLength
 
 -- what remains, or as it was where the call is refused
 abbrev pub listAfter : Check → List ℤ → List ℤ → List ℤ

@@ -16,7 +16,7 @@ use Rattle.plane.specs.Range.{InRange}
 use Rattle.plane.specs.Vector.{side}
 use Rattle.outline.specs.declared.Fault.{Fault}
 use Rattle.outline.specs.declared.Fault.the-variants.{OddLength, TooFewCorners, TooManyCorners, OutOfRange, Repeated, NotLeft, NoSuchCorner, WrongLength}
-use Rattle.outline.specs.Corners.{corners, corner, next, most}
+use Rattle.outline.specs.Corners.{corners, corner, next, fewest, most}
 
 pub record Lowest (P : ℕ → Type 0) (n i : ℕ) : Type 0 where
   pub below : i < n
@@ -30,7 +30,7 @@ pub record NotLeftOf (cs : List Corner) (e c : ℕ) : Type 0 where
 
 abbrev pub Applies : List ℤ → Fault → Type 0
 Applies s OddLength = length s % 2 ≡ 1
-Applies s TooFewCorners = length (corners s) < 3
+Applies s TooFewCorners = length (corners s) < fewest
 Applies s TooManyCorners = most < length (corners s)
 Applies s (OutOfRange i) = Lowest (λ i. ¬ InRange (corner (corners s) i)) (length (corners s)) i
 Applies s (Repeated i) =

@@ -10,7 +10,7 @@ use lib.Signed.{_<ℤ_}
 use Rattle.plane.specs.declared.Corner.{Corner}
 use Rattle.plane.specs.Range.{InRange}
 use Rattle.plane.specs.Vector.{side}
-use Rattle.outline.specs.Corners.{corner, next, most}
+use Rattle.outline.specs.Corners.{corner, next, fewest, most}
 
 -- every corner other than an edge's two ends is strictly left of that edge, for every edge
 abbrev pub StrictlyConvex : List Corner → Type 0
@@ -19,7 +19,7 @@ StrictlyConvex cs =
 
 -- 3 to 256 corners, every coordinate in range, and strictly convex
 pub record Accepted (cs : List Corner) : Type 0 where
-  pub enough : 3 ≤ length cs
+  pub enough : fewest ≤ length cs
   pub few : length cs ≤ most
   pub in-range : (i : ℕ) → i < length cs → InRange (corner cs i)
   pub convex : StrictlyConvex cs

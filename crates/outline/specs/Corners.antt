@@ -3,6 +3,7 @@
 --     corner     the corner with a number
 --     next       the number of the following corner; after the last comes corner 0.
 --                Edge i runs from corner i to corner next n i
+--     fewest, most    how many corners an outline has
 --     held       an outline as one value
 use Prim.Native.Nat.{ℕ, suc, _-_}
 use mathlib.Core.Bool.{cond}
@@ -28,7 +29,10 @@ corner cs i = getD cs i origin
 unfoldable pub next : ℕ → ℕ → ℕ
 next n i = cond (ltb (suc i) n) (suc i) 0
 
--- places for this many corners
+-- an outline has 3 to 256 corners
+abbrev pub fewest : ℕ
+fewest = 3
+
 abbrev pub most : ℕ
 most = 256
 

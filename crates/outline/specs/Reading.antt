@@ -17,7 +17,7 @@ use Rattle.outline.specs.declared.Check.the-variants.{Passed, Failed}
 use Rattle.outline.specs.declared.RefusedSide.{RefusedSide}
 use Rattle.outline.specs.declared.Outline.{Outline}
 use Rattle.outline.specs.declared.Reading.{Reading}
-use Rattle.outline.specs.Corners.{corners, corner, next, held, most}
+use Rattle.outline.specs.Corners.{corners, corner, next, held, fewest, most}
 use Rattle.outline.specs.Refusal.{outcome}
 use Rattle.outline.specs.Checks.{failIf, _orElse_, each}
 
@@ -27,7 +27,7 @@ oddLength s = failIf (eqb (length s % 2) 1) OddLength
 
 -- 2, fewer than 3 corners
 abbrev pub tooFew : List Corner → Check
-tooFew cs = failIf (ltb (length cs) 3) TooFewCorners
+tooFew cs = failIf (ltb (length cs) fewest) TooFewCorners
 
 -- 3, more than 256 corners
 abbrev pub tooMany : List Corner → Check
