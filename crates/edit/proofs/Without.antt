@@ -1,17 +1,20 @@
 -- The list without corner k.
 --     kept-before, kept-after            `kept k i` is i before k, and i + 1 from k on
 --     kept-mono, kept-≤                  it rises with i, and is at most i + 1
---     length-without, corner-without     one corner fewer; the i-th is corner `kept k i`
+--     length-without, numbers-without    one corner fewer, two numbers fewer
+--     corner-without                     the i-th of the other corners is corner `kept k i`
 --     without-convex, without-accepted   it is strictly convex as the list is; accepted as the list is, if four corners or more
-use Prim.Native.Nat.{ℕ, zero, suc, _≤_, _<_}
+use Prim.Native.Nat.{ℕ, zero, suc, _*_, _-_, _≤_, _<_}
 use native.Mathlib.Omega.{arith}
 use mathlib.Core.Path.{_≡_, refl, ap}
 use mathlib.Core.List.{List, [], _∷_}
 use lib.ListN.{length, length-append, length-take, length-drop}
 use Rattle.plane.specs.declared.Corner.{Corner}
+use Rattle.plane.specs.Vector.{coordinates}
 use Rattle.outline.specs.Corners.{corner}
 use Rattle.outline.specs.Convex.{StrictlyConvex, Accepted}
 use Rattle.edit.specs.Removal.{without, kept}
+use Rattle.outline.proofs.CornersLaws.{length-coordinates}
 use Rattle.outline.proofs.LeftTurns.{convex-turns, turns-convex}
 
 pub kept-before : (k i : ℕ) → i < k → kept k i ≡ i
@@ -39,6 +42,9 @@ pub length-without : (k : ℕ) (cs : List Corner) → k < length cs → suc (len
 unfolding without
 length-without k cs h = simp (length-append, length-take, length-drop) (omega arith)
 
+pub numbers-without : (k : ℕ) (cs : List Corner) → k < length cs → length (coordinates (without k cs)) ≡ 2 * (length cs - 1)
+numbers-without k cs h = omega (arith, length-coordinates (without k cs), length-without k cs h)
+
 pub corner-without : (k : ℕ) (cs : List Corner) (i : ℕ) → corner (without k cs) i ≡ corner cs (kept k i)
 unfolding without
 corner-without zero [] i = refl
@@ -57,8 +63,8 @@ pub without-accepted : (cs : List Corner) (k : ℕ) → Accepted cs → 4 ≤ le
 without-accepted cs k a four h =
     let less = length-without k cs h in
     record {
-      enough = omega arith;
-      few = omega (arith, a .few);
+      at-least = omega arith;
+      at-most = omega (arith, a .at-most);
       in-range = λ i b. rw (corner-without k cs i) (a .in-range (kept k i) (omega (arith, kept-≤ k i)));
       convex = without-convex cs k h (a .convex);
     }

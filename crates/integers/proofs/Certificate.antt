@@ -57,28 +57,29 @@ is-strict (l ≺ r) = true
 is-strict (l ≼ r) = false
 is-strict (l ≗ r) = false
 
-abbrev gap : Claim → Expr
-gap (l ≺ r) = r ⊖ l
-gap (l ≼ r) = r ⊖ l
-gap (l ≗ r) = r ⊖ l
+-- the right side less the left
+abbrev slack : Claim → Expr
+slack (l ≺ r) = r ⊖ l
+slack (l ≼ r) = r ⊖ l
+slack (l ≗ r) = r ⊖ l
 
 -- 0 stands for a claim of the wrong kind
-abbrev tight-gap : Claim → Expr
-tight-gap (l ≺ r) = r ⊖ (l ⊕ lit (pos 1))
-tight-gap (l ≼ r) = lit (pos 0)
-tight-gap (l ≗ r) = lit (pos 0)
+abbrev tight-slack : Claim → Expr
+tight-slack (l ≺ r) = r ⊖ (l ⊕ lit (pos 1))
+tight-slack (l ≼ r) = lit (pos 0)
+tight-slack (l ≗ r) = lit (pos 0)
 
-abbrev eqn-gap : Claim → Expr
-eqn-gap (l ≺ r) = lit (pos 0)
-eqn-gap (l ≼ r) = lit (pos 0)
-eqn-gap (l ≗ r) = r ⊖ l
+abbrev eqn-slack : Claim → Expr
+eqn-slack (l ≺ r) = lit (pos 0)
+eqn-slack (l ≼ r) = lit (pos 0)
+eqn-slack (l ≗ r) = r ⊖ l
 
 abbrev term : List Claim → Cert → Expr
-term hs (hyp i) = gap (nth hs i)
-term hs (tight i) = tight-gap (nth hs i)
+term hs (hyp i) = slack (nth hs i)
+term hs (tight i) = tight-slack (nth hs i)
 term hs (num n) = lit (pos (suc n))
 term hs (sq e) = e ⊗ e
-term hs (eqn i e) = eqn-gap (nth hs i) ⊗ e
+term hs (eqn i e) = eqn-slack (nth hs i) ⊗ e
 term hs (c ⊞ d) = term hs c ⊕ term hs d
 term hs (c ⊠ d) = term hs c ⊗ term hs d
 
@@ -152,23 +153,23 @@ module _ (env : List ℤ) where
   lookup (h ∷ hs) p zero = p .0
   lookup (h ∷ hs) p (suc i) = lookup hs (p .1) i
 
-  eqn-zero : (h : Claim) → Holds env h → eval env (eqn-gap h) ≡ pos 0
+  eqn-zero : (h : Claim) → Holds env h → eval env (eqn-slack h) ≡ pos 0
   eqn-zero (l ≺ r) p = refl
   eqn-zero (l ≼ r) p = refl
   eqn-zero (l ≗ r) p = ap (λ y. eval env r -ℤ y) p ∙ +ℤ-invr (eval env r)
 
-  gap-above : (h : Claim) → Holds env h → Above (is-strict h) (eval env (gap h))
-  gap-above (l ≺ r) p = <ℤ-sub p
-  gap-above (l ≼ r) p = ≤ℤ-sub p
-  gap-above (l ≗ r) p = zero-above (eqn-zero (l ≗ r) p)
+  slack-above : (h : Claim) → Holds env h → Above (is-strict h) (eval env (slack h))
+  slack-above (l ≺ r) p = <ℤ-sub p
+  slack-above (l ≼ r) p = ≤ℤ-sub p
+  slack-above (l ≗ r) p = zero-above (eqn-zero (l ≗ r) p)
 
-  tight-above : (h : Claim) → Holds env h → pos 0 ≤ℤ eval env (tight-gap h)
+  tight-above : (h : Claim) → Holds env h → pos 0 ≤ℤ eval env (tight-slack h)
   tight-above (l ≺ r) p = ≤ℤ-sub (<ℤ-sucℤ p)
   tight-above (l ≼ r) p = ≤ℤ-refl (pos 0)
   tight-above (l ≗ r) p = ≤ℤ-refl (pos 0)
 
   term-above : (hs : List Claim) → All hs → (c : Cert) → Above (strict hs c) (eval env (term hs c))
-  term-above hs p (hyp i) = gap-above (nth hs i) (lookup hs p i)
+  term-above hs p (hyp i) = slack-above (nth hs i) (lookup hs p i)
   term-above hs p (tight i) = tight-above (nth hs i) (lookup hs p i)
   term-above hs p (num n) = ltZ-yes (lt→ltb 0 (suc n) (zero-lt-suc n))
   term-above hs p (sq e) = square-nonneg (eval env e)

@@ -6,7 +6,6 @@
 --     order-shift        adding one number to both changes nothing
 --     then, order-parts  the key: whole parts, and then the remainders' products, decide as the cross products do
 --     remainder-fits     a remainder times a lower number fits 64 bits
--- Assumes nothing.
 use mathlib.Core.Path.{_≡_, refl, sym, subst}
 use mathlib.Core.Logic.{_↔_}
 use Prim.Native.Nat.{ℕ, _+_, _-_, _*_, _/_, _%_, _^_, _<_}

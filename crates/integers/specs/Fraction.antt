@@ -2,7 +2,6 @@
 --     order x y    the three-way comparison of two natural numbers: Less, Equal or Greater
 --     Bounded a    the bounds under which `compare` is exact in 64 bits
 -- Fractions are compared by their cross products: n1 / d1 is to n2 / d2 as n1 * d2 is to n2 * d1, in unbounded numbers.
--- Assumes nothing.
 use mathlib.Core.Bool.{cond}
 use Prim.Native.Nat.{ℕ, _^_, _<_}
 use lib.Dec.{ltb}

@@ -78,7 +78,7 @@ accepted-distinct {cs} ok i below same = <ℤ-irrefl (subst (λ z. pos 0 <ℤ z)
 
     left : pos 0 <ℤ side (corner cs i) (corner cs (next n i)) (corner cs third)
     left =
-        ok .convex i third below (next-below n (next n i) (omega arith)) (next-next-other n i (ok .enough)) (next-other n (next n i) (omega arith))
+        ok .convex i third below (next-below n (next n i) (omega arith)) (next-next-other n i (ok .at-least)) (next-other n (next n i) (omega arith))
 
     on-line : side (corner cs i) (corner cs (next n i)) (corner cs third) ≡ pos 0
     on-line = ap (λ q. side (corner cs i) q (corner cs third)) (sym same) ∙ side-same (corner cs i) (corner cs third)
@@ -92,8 +92,8 @@ accepted s = (there, λ h. none-applies s .1 (none (h .0) (h .1)))
         let none = none-applies s .0 e in (
           omega (arith, none OddLength),
           record {
-            enough = omega (arith, none TooFewCorners);
-            few = omega (arith, none TooManyCorners);
+            at-least = omega (arith, none TooFewCorners);
+            at-most = omega (arith, none TooManyCorners);
             in-range = outOfRange-passed (corners s) (pass 3 (omega arith));
             convex = notLeft-passed (corners s) (pass 5 (omega arith));
           },

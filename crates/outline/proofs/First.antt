@@ -4,7 +4,7 @@
 --     each-passed, each-failed       `each` passes exactly where all checks pass, and fails so exactly where there is such a first check
 --     each-none, each-lowest         where a check fails exactly where something holds: it holds nowhere below n; its lowest place
 --     failIf-passed, failIf-failed, test-fails, test-lowest    the same for a check that a test makes
---     orElse-passed                  two checks pass exactly where both do
+--     orElse-passed, orElse-failed   of two checks: both pass; the first fails, or it passes and the second fails
 use Prim.Native.Nat.{ℕ, zero, suc, _-_, _<_, _≤_}
 use mathlib.Core.Path.{_≡_, refl, ap, subst, _∙_}
 use mathlib.Core.Logic.{_↔_, Iff·trans, _⊎_, inl, inr, ⊎-elim}
@@ -109,6 +109,10 @@ module _ {P : ℕ → Type 0} {check : ℕ → Check} (decides : FailsWhere P ch
 pub orElse-passed : (c d : Check) → (c orElse d ≡ Passed) ↔ ((c ≡ Passed) × (d ≡ Passed))
 orElse-passed Passed d = (λ e. (refl, e), λ both. both .1)
 orElse-passed (Failed f) d = (λ e. absurd (passed≢failed e refl), λ both. both .0)
+
+pub orElse-failed : (c d : Check) (f : Fault) → c orElse d ≡ Failed f → (c ≡ Failed f) ⊎ ((c ≡ Passed) × (d ≡ Failed f))
+orElse-failed Passed d f e = inr (refl, e)
+orElse-failed (Failed g) d f e = inl e
 
 -- ---- checks that tests make
 

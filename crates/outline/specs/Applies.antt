@@ -1,8 +1,8 @@
 -- When each refusal of reading applies, as document 01 words its condition and place.
 --     Lowest       the lowest number below n of which something holds
 --     NotLeftOf    a corner other than an edge's two ends that is not strictly left of the edge
---     Applies      the condition and the place of each fault
---     rank         the order in which document 01 lists them
+--     Applies      the condition and the place of each fault that reading finds
+--     rank         the order in which reading looks for them
 -- `proofs/Acceptance.antt` shows that reading finds the first fault that applies.
 use Prim.Native.Nat.{ℕ, _<_, _%_}
 use mathlib.Core.Path.{_≡_}
@@ -32,14 +32,16 @@ abbrev pub Applies : List ℤ → Fault → Type 0
 Applies s OddLength = length s % 2 ≡ 1
 Applies s TooFewCorners = length (corners s) < fewest
 Applies s TooManyCorners = most < length (corners s)
-Applies s (OutOfRange i) = Lowest (λ i. ¬ InRange (corner (corners s) i)) (length (corners s)) i
+Applies s (OutOfRange i) = Lowest (λ j. ¬ InRange (corner (corners s) j)) (length (corners s)) i
 Applies s (Repeated i) =
-    Lowest (λ i. corner (corners s) i ≡ corner (corners s) (next (length (corners s)) i)) (length (corners s)) i
+    Lowest (λ j. corner (corners s) j ≡ corner (corners s) (next (length (corners s)) j)) (length (corners s)) i
 Applies s (NotLeft e c) =
-    Lowest (λ e. (c : ℕ) × (c < length (corners s)) × NotLeftOf (corners s) e c) (length (corners s)) e × Lowest (NotLeftOf (corners s) e) (length (corners s)) c
+    Lowest (λ f. (d : ℕ) × (d < length (corners s)) × NotLeftOf (corners s) f d) (length (corners s)) e
+    × Lowest (NotLeftOf (corners s) e) (length (corners s)) c
 Applies s NoSuchCorner = ⊥
 Applies s WrongLength = ⊥
 
+-- the last two are not for reading
 abbrev pub rank : Fault → ℕ
 rank OddLength = 0
 rank TooFewCorners = 1
@@ -48,4 +50,4 @@ rank (OutOfRange i) = 3
 rank (Repeated i) = 4
 rank (NotLeft e c) = 5
 rank NoSuchCorner = 6
-rank WrongLength = 7
+rank WrongLength = 6

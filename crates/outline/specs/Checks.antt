@@ -1,7 +1,7 @@
 -- Checks made in order, of which the first that fails stands.
 --     failIf      a check that fails where a test holds
 --     _orElse_    the first check, or the second where the first passes
---     each        a check at i, i + 1, .. , as many as `left` says: the first that fails
+--     each        a check at i, i + 1, .. , `count` of them
 use Prim.Native.Nat.{ℕ, zero, suc}
 use mathlib.Core.Bool.{Bool, true, false}
 use Rattle.outline.specs.declared.Fault.{Fault}
@@ -19,4 +19,4 @@ Failed f orElse d = Failed f
 
 unfoldable pub each : (ℕ → Check) → ℕ → ℕ → Check
 each check zero i = Passed
-each check (suc left) i = check i orElse each check left (suc i)
+each check (suc count) i = check i orElse each check count (suc i)

@@ -1,4 +1,5 @@
 -- Which lists of corners are accepted.
+--     AllInRange        every coordinate is in range
 --     StrictlyConvex    every corner other than an edge's two ends is strictly left of the edge
 --     Accepted          document 01: an outline is accepted
 use Prim.Native.Nat.{ℕ, _≤_, _<_}
@@ -12,14 +13,18 @@ use Rattle.plane.specs.Range.{InRange}
 use Rattle.plane.specs.Vector.{side}
 use Rattle.outline.specs.Corners.{corner, next, fewest, most}
 
+abbrev pub AllInRange : List Corner → Type 0
+AllInRange cs = (i : ℕ) → i < length cs → InRange (corner cs i)
+
 -- every corner other than an edge's two ends is strictly left of that edge, for every edge
 abbrev pub StrictlyConvex : List Corner → Type 0
 StrictlyConvex cs =
-    (e c : ℕ) → e < length cs → c < length cs → c ≢ e → c ≢ next (length cs) e → pos 0 <ℤ side (corner cs e) (corner cs (next (length cs) e)) (corner cs c)
+    (e c : ℕ) → e < length cs → c < length cs → c ≢ e → c ≢ next (length cs) e
+    → pos 0 <ℤ side (corner cs e) (corner cs (next (length cs) e)) (corner cs c)
 
 -- 3 to 256 corners, every coordinate in range, and strictly convex
 pub record Accepted (cs : List Corner) : Type 0 where
-  pub enough : fewest ≤ length cs
-  pub few : length cs ≤ most
-  pub in-range : (i : ℕ) → i < length cs → InRange (corner cs i)
+  pub at-least : fewest ≤ length cs
+  pub at-most : length cs ≤ most
+  pub in-range : AllInRange cs
   pub convex : StrictlyConvex cs

@@ -1,7 +1,7 @@
 -- Document 01's refusals.
 --     number, place    document 01's number and place of each fault
 --     refusal          the refusal for a fault
---     outcome          how a call ends whose checks found this
+--     verdict          the verdict of a call whose checks found this
 use Prim.Native.Nat.{ℕ}
 use Rattle.outline.specs.declared.Fault.{Fault}
 use Rattle.outline.specs.declared.Fault.the-variants.{OddLength, TooFewCorners, TooManyCorners, OutOfRange, Repeated, NotLeft, NoSuchCorner, WrongLength}
@@ -9,10 +9,10 @@ use Rattle.outline.specs.declared.Check.{Check}
 use Rattle.outline.specs.declared.Check.the-variants.{Passed, Failed}
 use Rattle.outline.specs.declared.RefusedSide.{RefusedSide}
 use Rattle.outline.specs.declared.Place.{Place}
-use Rattle.outline.specs.declared.Place.the-variants.{Nowhere, AtCorner, AtEdgeAndCorner}
+use Rattle.outline.specs.declared.Place.the-variants.{Nowhere, At, EdgeAndCorner}
 use Rattle.outline.specs.declared.Refusal.{Refusal}
-use Rattle.outline.specs.declared.Outcome.{Outcome}
-use Rattle.outline.specs.declared.Outcome.the-variants.{Done, Refused}
+use Rattle.outline.specs.declared.Verdict.{Verdict}
+use Rattle.outline.specs.declared.Verdict.the-variants.{Taken, Refused}
 
 abbrev pub number : Fault → ℕ
 number OddLength = 1
@@ -28,15 +28,15 @@ abbrev pub place : Fault → Place
 place OddLength = Nowhere
 place TooFewCorners = Nowhere
 place TooManyCorners = Nowhere
-place (OutOfRange i) = AtCorner i
-place (Repeated i) = AtCorner i
-place (NotLeft e c) = AtEdgeAndCorner e c
+place (OutOfRange i) = At i
+place (Repeated i) = At i
+place (NotLeft e c) = EdgeAndCorner e c
 place NoSuchCorner = Nowhere
 place WrongLength = Nowhere
 
 abbrev pub refusal : RefusedSide → Fault → Refusal
-refusal side f = record { number = number f; side = side; place = place f }
+refusal whose f = record { number = number f; side = whose; place = place f }
 
-abbrev pub outcome : RefusedSide → Check → Outcome
-outcome side Passed = Done
-outcome side (Failed f) = Refused (refusal side f)
+abbrev pub verdict : RefusedSide → Check → Verdict
+verdict whose Passed = Taken
+verdict whose (Failed f) = Refused (refusal whose f)

@@ -9,16 +9,13 @@ use crate::corners::next;
 use plane::Corner;
 use plane::Vector;
 ghost use mathlib.Core.Path.{_≡_};
-ghost use mathlib.Core.Bool.{not, _&&_};
-ghost use Prim.Native.Nat.{ℕ, _<_};
-ghost use lib.Dec.{eqb};
-ghost use lib.IntN.{pos};
+ghost use Prim.Native.Nat.{_<_};
 ghost use lib.ListN.{length};
-ghost use lib.Signed.{leZ};
 ghost use Rattle.plane.specs.Range.{InRange, Span, reach};
-ghost use Rattle.plane.specs.Vector.{_⇀_, cross};
 ghost use Rattle.outline.specs.Checks.{_orElse_};
-ghost use Rattle.outline.specs.Corners.{corners, corner};
+ghost use Rattle.outline.specs.Convex.{AllInRange};
+ghost use Rattle.outline.specs.Corners.{corners};
+ghost use Rattle.outline.specs.Edge.{edgeOf, isNotLeftOf};
 ghost use Rattle.outline.specs.Reading.{oddLength, tooFew, tooMany, outOfRange, repeated, notLeftOf, notLeft, check};
 
 // 1, 2 and 3: the length of the list.
@@ -68,35 +65,56 @@ fn check_repeated(s: &[i32]) -> Check
     Check::Passed
 }
 
-// Whether corner c at v, which is no end of edge e from p, is not strictly left of it. The edge ends at corner f.
-fn is_not_left(e: usize, f: usize, p: Corner, edge: Vector, c: usize, v: Corner) -> bool
-    requires { ⌜ Span reach edge ⌝ }
-    requires { ⌜ InRange p ⌝ }
-    requires { ⌜ InRange v ⌝ }
-    ensures { λ r. ⌜ r ≡ (not (eqb c e) && not (eqb c f) && leZ (cross edge (p ⇀ v)) (pos 0)) ⌝ }
+// An edge, taken out of the list: the numbers of its ends, the corner that it runs from, and its differences.
+struct Edge {
+    start: usize,
+    end: usize,
+    from: Corner,
+    run: Vector,
+}
+
+fn take_edge(s: &[i32], e: usize) -> Edge
+    requires { ⌜ e < length (corners (now s)) ⌝ }
+    ensures { λ r. ⌜ r ≡ edgeOf (corners (now (s .entry))) e ⌝ }
 {
-    if c == e {
+    let f = next(count(s), e);
+    let p = corner(s, e);
+    let q = corner(s, f);
+    Edge {
+        start: e,
+        end: f,
+        from: p,
+        run: plane::difference(p, q),
+    }
+}
+
+// Whether corner c, at v, is no end of the edge and not strictly left of it.
+fn is_not_left(edge: Edge, c: usize, v: Corner) -> bool
+    requires { ⌜ Span reach (edge .run) ⌝ }
+    requires { ⌜ InRange (edge .from) ⌝ }
+    requires { ⌜ InRange v ⌝ }
+    ensures { λ r. ⌜ r ≡ isNotLeftOf edge c v ⌝ }
+{
+    if c == edge.start {
         return false;
     }
-    if c == f {
+    if c == edge.end {
         return false;
     }
-    plane::side(edge, plane::difference(p, v)) <= 0
+    plane::side(edge.run, plane::difference(edge.from, v)) <= 0
 }
 
 // 6, for edge e alone: the first corner that is not strictly left of it.
 fn check_edge(s: &[i32], e: usize) -> Check
     requires { ⌜ e < length (corners (now s)) ⌝ }
-    requires { ⌜ ((i : ℕ) → i < length (corners (now s)) → InRange (corner (corners (now s)) i)) ⌝ }
+    requires { ⌜ AllInRange (corners (now s)) ⌝ }
     ensures { λ r. ⌜ r ≡ notLeftOf (corners (now (s .entry))) e ⌝ }
 {
     let n = count(s);
-    let f = next(n, e);
-    let p = corner(s, e);
-    let edge = plane::difference(p, corner(s, f));
+    let taken = take_edge(s, e);
     let mut c = 0;
     while c < n {
-        if is_not_left(e, f, p, edge, c, corner(s, c)) {
+        if is_not_left(taken, c, corner(s, c)) {
             return Check::Failed(Fault::NotLeft(e, c));
         }
         c += 1;
@@ -106,7 +124,7 @@ fn check_edge(s: &[i32], e: usize) -> Check
 
 // 6: the first edge that some corner is not strictly left of, and the first such corner.
 fn check_convex(s: &[i32]) -> Check
-    requires { ⌜ ((i : ℕ) → i < length (corners (now s)) → InRange (corner (corners (now s)) i)) ⌝ }
+    requires { ⌜ AllInRange (corners (now s)) ⌝ }
     ensures { λ r. ⌜ r ≡ notLeft (corners (now (s .entry))) ⌝ }
 {
     let n = count(s);

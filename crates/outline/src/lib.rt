@@ -43,11 +43,11 @@ pub enum RefusedSide {
     B,
 }
 
-// The place of a refusal: none, a corner, or an edge and a corner.
+// The place of a refusal: none, one number, or an edge and a corner.
 pub enum Place {
     Nowhere,
-    AtCorner(usize),
-    AtEdgeAndCorner(usize, usize),
+    At(usize),
+    EdgeAndCorner(usize, usize),
 }
 
 // Document 01: a refusal.
@@ -57,29 +57,29 @@ pub struct Refusal {
     pub place: Place,
 }
 
-// How a call ends that answers nothing else.
-pub enum Outcome {
-    Done,
+// Whether a call takes what it is handed.
+pub enum Verdict {
+    Taken,
     Refused(Refusal),
 }
 
 // What reading a list gives: the outline, or the refusal and an outline without corners.
 pub struct Reading {
-    pub outcome: Outcome,
+    pub verdict: Verdict,
     pub outline: Outline,
 }
 
-// Reads the outline that a list gives. `side` is named in a refusal.
-pub fn read(s: &[i32], side: RefusedSide) -> Reading
-    ensures { λ r. ⌜ r ≡ reading side (now (s .entry)) ⌝ }
+// Reads the outline that a list gives. A refusal names the side `whose`.
+pub fn read(s: &[i32], whose: RefusedSide) -> Reading
+    ensures { λ r. ⌜ r ≡ reading whose (now (s .entry)) ⌝ }
 {
     match checks::check(s) {
         Check::Passed => Reading {
-            outcome: Outcome::Done,
+            verdict: Verdict::Taken,
             outline: corners::hold(s),
         },
         Check::Failed(f) => Reading {
-            outcome: Outcome::Refused(refusals::refusal(side, f)),
+            verdict: Verdict::Refused(refusals::refusal(whose, f)),
             outline: corners::none(),
         },
     }

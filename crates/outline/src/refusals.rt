@@ -30,21 +30,21 @@ fn place(f: Fault) -> Place
         Fault::OddLength => Place::Nowhere,
         Fault::TooFewCorners => Place::Nowhere,
         Fault::TooManyCorners => Place::Nowhere,
-        Fault::OutOfRange(i) => Place::AtCorner(i),
-        Fault::Repeated(i) => Place::AtCorner(i),
-        Fault::NotLeft(e, c) => Place::AtEdgeAndCorner(e, c),
+        Fault::OutOfRange(i) => Place::At(i),
+        Fault::Repeated(i) => Place::At(i),
+        Fault::NotLeft(e, c) => Place::EdgeAndCorner(e, c),
         Fault::NoSuchCorner => Place::Nowhere,
         Fault::WrongLength => Place::Nowhere,
     }
 }
 
 // The refusal for a fault.
-pub fn refusal(side: RefusedSide, f: Fault) -> Refusal
-    ensures { λ r. ⌜ r ≡ refusal side f ⌝ }
+pub fn refusal(whose: RefusedSide, f: Fault) -> Refusal
+    ensures { λ r. ⌜ r ≡ refusal whose f ⌝ }
 {
     Refusal {
         number: number(f),
-        side: side,
+        side: whose,
         place: place(f),
     }
 }

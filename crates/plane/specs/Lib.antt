@@ -1,3 +1,3 @@
--- What the contracts of `plane` and of the crates above it say of points and vectors.
+-- What contracts say of points and vectors.
 pub mod Vector
 pub mod Range

@@ -1,9 +1,8 @@
 -- Points and vectors of the plane with whole coordinates.
---     _⇀_     the vector from a point to another
---     cross    the cross product: positive where the second vector turns left from the first
---     dot      the dot product
---     side     document 01: the side number of a point against an edge
---     same     two points are the same: the test
+--     _⇀_            the vector from a point to another
+--     cross, dot     the cross product, positive where the second vector turns left from the first; the dot product
+--     side           document 01: the side number of a point against an edge
+--     same           the test whether two points are the same
 --     coordinates    the list of numbers that gives some points
 use mathlib.Core.Bool.{Bool, _&&_}
 use mathlib.Core.List.{List, [], _∷_}
@@ -27,7 +26,6 @@ dot a b = (a .x *ℤ b .x) +ℤ (a .y *ℤ b .y)
 abbrev pub side : Corner → Corner → Corner → ℤ
 side p q v = cross (p ⇀ q) (p ⇀ v)
 
--- two points are the same point
 unfoldable pub same : Corner → Corner → Bool
 same p q = eqZ (p .x) (q .x) && eqZ (p .y) (q .y)
 

@@ -1,4 +1,4 @@
-// Points and vectors of the plane with whole coordinates; the side number, from whose sign alone everything above decides.
+// Points and vectors of the plane with whole coordinates, and the side number.
 ghost use mathlib.Core.Path.{_≡_};
 ghost use Rattle.plane.specs.Vector.{_⇀_, cross, dot, same};
 ghost use Rattle.integers.specs.Equal.{eqZ};
@@ -30,8 +30,8 @@ pub fn difference(p: Corner, q: Corner) -> Vector
     }
 }
 
-// Document 01: the side number of the point at `to` from the edge's start, where the edge has the differences `edge`.
-// Of two edges it is the number whose sign orders their directions.
+// Document 01: the side number, of a point against an edge. `edge` has the edge's differences and `to` those from the edge's start
+// to the point. Of the differences of two edges it is the number whose sign orders their directions.
 pub fn side(edge: Vector, to: Vector) -> i64
     requires { ⌜ Span reach edge ⌝ }
     requires { ⌜ Span reach to ⌝ }

@@ -7,27 +7,22 @@ use Prim.Native.Nat.{ℕ}
 use mathlib.Core.Path.{_≡_}
 use mathlib.Core.List.{List, [], _∷_}
 use lib.IntN.{ℤ, pos, negsuc}
-use lib.ListN.{length}
-use Rattle.plane.specs.Vector.{coordinates}
-use Rattle.outline.specs.declared.Outcome.{Outcome}
-use Rattle.outline.specs.declared.Outcome.the-variants.{Done, Refused}
-use Rattle.outline.specs.declared.Place.the-variants.{Nowhere, AtEdgeAndCorner}
+use Rattle.outline.specs.declared.Verdict.{Verdict}
+use Rattle.outline.specs.declared.Verdict.the-variants.{Taken, Refused}
+use Rattle.outline.specs.declared.Place.the-variants.{Nowhere, EdgeAndCorner}
 use Rattle.outline.specs.declared.RefusedSide.the-variants.{NoSide}
-use Rattle.outline.specs.Corners.{corners}
 use Rattle.outline.specs.Reading.{reading}
-use Rattle.outline.specs.Refusal.{outcome}
-use Rattle.edit.specs.Removal.{without, removal, listAfter}
+use Rattle.edit.specs.Removal.{removalVerdict, listAfter}
 
 pub data Case : Type 0 where
   -- reading the list ends so
-  reads : List ℤ → Outcome → Case
+  reads : List ℤ → Verdict → Case
   -- removing a corner of the list, with a list to write, ends so and leaves that list so
-  removes : List ℤ → ℕ → List ℤ → Outcome → List ℤ → Case
+  removes : List ℤ → ℕ → List ℤ → Verdict → List ℤ → Case
 
 abbrev pub Holds : Case → Type 0
-Holds (reads s ends) = reading NoSide s .outcome ≡ ends
-Holds (removes s k out ends after) =
-    (outcome NoSide (removal s k (length out)) ≡ ends) × (listAfter (removal s k (length out)) out (coordinates (without k (corners s))) ≡ after)
+Holds (reads s ends) = reading NoSide s .verdict ≡ ends
+Holds (removes s k out ends after) = (removalVerdict s k out ≡ ends) × (listAfter s k out ≡ after)
 
 abbrev pub All : List Case → Type 0
 All [] = Unit {0}
@@ -49,6 +44,10 @@ straight = pos 0 ∷ pos 0 ∷ pos 2 ∷ pos 0 ∷ pos 4 ∷ pos 0 ∷ pos 0 ∷
 unfoldable pub clockwise : List ℤ
 clockwise = pos 0 ∷ pos 0 ∷ pos 0 ∷ pos 4 ∷ pos 4 ∷ pos 0 ∷ []
 
+-- T, walked twice
+unfoldable pub twice : List ℤ
+twice = pos 0 ∷ pos 0 ∷ pos 4 ∷ pos 0 ∷ pos 0 ∷ pos 4 ∷ T
+
 -- lists to write, whatever they hold before
 abbrev pub four : List ℤ
 four = pos 7 ∷ pos 7 ∷ pos 7 ∷ pos 7 ∷ []
@@ -56,20 +55,21 @@ four = pos 7 ∷ pos 7 ∷ pos 7 ∷ pos 7 ∷ []
 abbrev pub six : List ℤ
 six = pos 7 ∷ pos 7 ∷ four
 
-abbrev notLeft : ℕ → ℕ → Outcome
-notLeft e c = Refused (record { number = 6; side = NoSide; place = AtEdgeAndCorner e c })
+abbrev notLeft : ℕ → ℕ → Verdict
+notLeft e c = Refused (record { number = 6; side = NoSide; place = EdgeAndCorner e c })
 
-abbrev tooFew : Outcome
+abbrev tooFew : Verdict
 tooFew = Refused (record { number = 2; side = NoSide; place = Nowhere })
 
 abbrev pub cases : List Case
 cases =
-    reads S Done
-    ∷ reads T Done
+    reads S Taken
+    ∷ reads T Taken
     ∷ reads star (notLeft 0 3)
     ∷ reads straight (notLeft 0 2)
     ∷ reads clockwise (notLeft 0 2)
-    ∷ removes S 1 six Done (pos 0 ∷ pos 0 ∷ pos 4 ∷ pos 4 ∷ pos 0 ∷ pos 4 ∷ [])
+    ∷ reads twice (notLeft 0 3)
+    ∷ removes S 1 six Taken (pos 0 ∷ pos 0 ∷ pos 4 ∷ pos 4 ∷ pos 0 ∷ pos 4 ∷ [])
     ∷ removes T 0 four tooFew four
     ∷ removes T 1 four tooFew four
     ∷ removes T 2 four tooFew four

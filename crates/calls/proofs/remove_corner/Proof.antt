@@ -1,35 +1,25 @@
--- `calls::remove_corner` goes by what stands against the removal, as the definitions do.
+-- `calls::remove_corner` goes by what stands against the removal.
 use borrow.Author.Needs.{needs}
-use mathlib.Core.List.{List}
-use mathlib.Core.Path.{_≡_, refl, sym, ap, _∙_}
-use lib.IntN.{ℤ}
-use Rattle.outline.specs.declared.Check.{Check}
-use Rattle.outline.specs.declared.Outcome.{Outcome}
-use Rattle.outline.specs.declared.Outcome.the-variants.{Refused}
-use Rattle.outline.specs.declared.RefusedSide.the-variants.{NoSide}
-use Rattle.outline.specs.Refusal.{outcome}
-use Rattle.edit.specs.Removal.{listAfter}
-use Rattle.edit.proofs.Removal.{removal-able}
+use mathlib.Core.Path.{sym, ap, _∙_}
+use Rattle.outline.specs.declared.Verdict.the-variants.{Refused}
+use Rattle.edit.proofs.Removal.{removal-refused, removal-taken, removal-able}
 use Rattle.calls.proofs.remove_corner.Statement.{statement}
 use Rattle.calls.proofs.remove_corner.Tie as tie
-
--- what the checks found decides how the call ends and what it leaves
-decided : (before remains : List ℤ) {found d : Check} {o : Outcome} {after : List ℤ} → found ≡ d → o ≡ outcome NoSide d → after ≡ listAfter d before remains → (o ≡ outcome NoSide found) × (after ≡ listAfter found before remains)
-decided before remains is ends leaves =
-    (ends ∙ sym (ap (outcome NoSide) is), leaves ∙ sym (ap (λ (d : Check). listAfter d before remains) is))
 
 check-removal-requires : tie.Need-check-removal-requires
 check-removal-requires c κs = search needs
 
-enum-known-found : tie.Need-enum-known-found
-enum-known-found c = search needs
+enum-known-f : tie.Need-enum-known-f
+enum-known-f c = search needs
 
 refusal-requires : tie.Need-refusal-requires
 refusal-requires c κs = search needs
 
 returns : tie.Need-returns
 returns c =
-    decided _ _ (sym (c .before .before .before .before .check-removal .ensures) ∙ c .before .before .found .given .1) (ap Refused (c .refusal .ensures)) refl
+    let fails = sym (c .before .before .before .before .check-removal .ensures) ∙ c .before .before .f .given .1 in
+    let (answer, list) = removal-refused _ _ (c .before .before .before .before .before .args .out .now) fails in
+    (ap Refused (c .refusal .ensures) ∙ sym answer, sym list)
 
 enum-told : tie.Need-enum-told
 enum-told c = search needs
@@ -43,14 +33,16 @@ same-length c = search needs
 
 returns-2 : tie.Need-returns-2
 returns-2 c =
-    decided _ _ (sym (c .before .before .before .before .before .check-removal .ensures) ∙ c .before .before .before .enum-told .given .1) refl (c .before .write-without .ensures)
+    let passes = sym (c .before .before .before .before .before .check-removal .ensures) ∙ c .before .before .before .enum-told .given .1 in
+    let (answer, list) = removal-taken _ _ (c .before .before .before .before .before .before .args .out .now) passes in
+    (sym answer, c .before .write-without .ensures ∙ sym list)
 
 pub remove-corner-spec : {M : Type 1} → statement M
 remove-corner-spec =
     tie.close
     (tie.spec
     check-removal-requires
-    enum-known-found
+    enum-known-f
     refusal-requires
     returns
     enum-told

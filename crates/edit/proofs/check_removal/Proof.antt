@@ -1,46 +1,19 @@
 -- `edit::check_removal` checks the list and then makes the three tests in order.
 use borrow.Author.Needs.{needs}
-use borrow.Author.Tests.{le-leb, lt-leb, eq-eqb, ne-eqb}
-use mathlib.Core.List.{List}
-use mathlib.Core.Path.{_≡_}
+use mathlib.Core.Path.{_≡_, sym, _∙_}
 use native.Mathlib.Omega.{arith}
-use Prim.Native.Nat.{ℕ, _≤_, _<_, _-_, _*_}
+use Prim.Native.Nat.{ℕ, _<_, _-_, _*_}
+use mathlib.Core.List.{List}
 use lib.IntN.{ℤ}
 use lib.ListN.{length}
 use Rattle.plane.specs.Vector.{coordinates}
-use Rattle.outline.specs.declared.Check.{Check}
-use Rattle.outline.specs.declared.Check.the-variants.{Passed, Failed}
-use Rattle.outline.specs.declared.Fault.the-variants.{TooFewCorners, NoSuchCorner, WrongLength}
 use Rattle.outline.specs.Corners.{corners}
-use Rattle.outline.specs.Reading.{check}
-use Rattle.outline.proofs.ChecksLaws.{stops, goes-on}
-use Rattle.outline.proofs.CornersLaws.{corners-fit, length-coordinates}
-use Rattle.edit.specs.Removal.{without, removal}
-use Rattle.edit.proofs.Without.{length-without}
+use Rattle.outline.proofs.CornersLaws.{corners-fit}
+use Rattle.edit.specs.Removal.{without, unread, unknown, just-three, wrong-length}
+use Rattle.edit.proofs.Removal.{stands-failed, removal-passed}
+use Rattle.edit.proofs.Without.{numbers-without}
 use Rattle.edit.proofs.check_removal.Statement.{statement}
 use Rattle.edit.proofs.check_removal.Tie as tie
-
--- the three tests, made on the number n of corners once the list is accepted
-module _ (s : List ℤ) (k room : ℕ) {r : Check} {n : ℕ} (checked : r ≡ check s) (passes : r ≡ Passed) (counted : n ≡ length (corners s)) where
-  unknown : n ≤ k → Failed NoSuchCorner ≡ removal s k room
-  unfolding removal
-  unknown past = goes-on _ checked passes (rw (← counted, le-leb n k past))
-
-  module _ (known : k < n) where
-    just-three : n ≡ 3 → Failed TooFewCorners ≡ removal s k room
-    unfolding removal
-    just-three three = goes-on _ checked passes (rw (← counted, lt-leb n k known, eq-eqb n 3 three))
-
-    left : length (coordinates (without k (corners s))) ≡ 2 * (n - 1)
-    left = omega (arith, length-coordinates (without k (corners s)), length-without k (corners s) (omega arith))
-
-    wrong-length : (n ≡ 3 → ⊥) → (room ≡ 2 * (n - 1) → ⊥) → Failed WrongLength ≡ removal s k room
-    unfolding removal
-    wrong-length more other = goes-on _ checked passes (rw (← counted, lt-leb n k known, ne-eqb n 3 more, left, ne-eqb room (2 * (n - 1)) other))
-
-    all-pass : (n ≡ 3 → ⊥) → room ≡ 2 * (n - 1) → Passed ≡ removal s k room
-    unfolding removal
-    all-pass more same = goes-on _ checked passes (rw (← counted, lt-leb n k known, ne-eqb n 3 more, left, eq-eqb room (2 * (n - 1)) same))
 
 check-requires : tie.Need-check-requires
 check-requires c κs = search needs
@@ -49,8 +22,7 @@ enum-known-f : tie.Need-enum-known-f
 enum-known-f c = search needs
 
 returns : tie.Need-returns
-unfolding removal
-returns c = stops _ (c .before .before .before .check .ensures) (c .before .f .given .1)
+returns c = sym (stands-failed _ _ _ (unread (sym (c .before .before .before .check .ensures) ∙ c .before .f .given .1)))
 
 enum-told : tie.Need-enum-told
 enum-told c = search needs
@@ -60,11 +32,13 @@ count-requires c κs = search needs
 
 returns-2 : tie.Need-returns-2
 returns-2 c =
-    unknown _ _ _ (c .before .before .before .before .check .ensures) (c .before .before .enum-told .given .1) (c .before .count .ensures) (c .if1 .taken)
+    let taken = sym (c .before .before .before .before .check .ensures) ∙ c .before .before .enum-told .given .1 in
+    sym (stands-failed _ _ _ (unknown taken (omega arith)))
 
 returns-3 : tie.Need-returns-3
 returns-3 c =
-    just-three _ _ _ (c .before .before .before .before .before .check .ensures) (c .before .before .before .enum-told .given .1) (c .before .before .count .ensures) (c .before .if1 .left) (c .if2 .taken)
+    let taken = sym (c .before .before .before .before .before .check .ensures) ∙ c .before .before .before .enum-told .given .1 in
+    sym (stands-failed _ _ _ (just-three taken (omega arith) (omega arith)))
 
 sub-if3 : tie.Need-sub-if3
 sub-if3 c = search needs
@@ -74,11 +48,17 @@ mul-if3 c = omega (arith, corners-fit (c .before .before .before .before .before
 
 returns-4 : tie.Need-returns-4
 returns-4 c =
-    wrong-length _ _ _ (c .before .before .before .before .before .before .check .ensures) (c .before .before .before .before .enum-told .given .1) (c .before .before .before .count .ensures) (c .before .before .if1 .left) (c .before .if2 .left) (c .if3 .taken)
+    let a = c .before .before .before .before .before .before .before .args in
+    let taken = sym (c .before .before .before .before .before .before .check .ensures) ∙ c .before .before .before .before .enum-told .given .1 in
+    let left = numbers-without (a .k) (corners (a .s .now)) (omega arith) in
+    sym (stands-failed _ _ _ (wrong-length taken (omega arith) (omega arith) (omega arith)))
 
 returns-5 : tie.Need-returns-5
 returns-5 c =
-    all-pass _ _ _ (c .before .before .before .before .before .before .check .ensures) (c .before .before .before .before .enum-told .given .1) (c .before .before .before .count .ensures) (c .before .before .if1 .left) (c .before .if2 .left) (c .if3 .left)
+    let a = c .before .before .before .before .before .before .before .args in
+    let taken = sym (c .before .before .before .before .before .before .check .ensures) ∙ c .before .before .before .before .enum-told .given .1 in
+    let left = numbers-without (a .k) (corners (a .s .now)) (omega arith) in
+    sym (removal-passed _ _ _ .1 (record { taken = taken; known = omega arith; more = omega arith; long = omega arith }))
 
 pub check-removal-spec : {M : Type 1} → statement M
 check-removal-spec =

@@ -9,9 +9,9 @@ use lib.ListN.{length}
 use Rattle.plane.specs.declared.Corner.{Corner}
 use Rattle.plane.specs.Vector.{coordinates}
 use Rattle.outline.specs.Corners.{corners, corner}
-use Rattle.outline.proofs.CornersLaws.{corners-fit, length-coordinates}
+use Rattle.outline.proofs.CornersLaws.{corners-fit}
 use Rattle.edit.specs.Removal.{without, kept, Removable, putCorner}
-use Rattle.edit.proofs.Without.{kept-≤, length-without, corner-without}
+use Rattle.edit.proofs.Without.{kept-≤, length-without, numbers-without, corner-without}
 use Rattle.edit.proofs.Writing.{copied, copied-length, copied-all, put-next}
 use Rattle.edit.proofs.write_without.Statement.{statement}
 use Rattle.edit.proofs.write_without.Tie as tie
@@ -21,7 +21,7 @@ remains s k = coordinates (without k (corners s))
 
 module _ {s : List ℤ} {k : ℕ} {out₀ : List ℤ} (able : Removable s k out₀) where
   count : length (remains s k) ≡ 2 * (length (corners s) - 1)
-  count = omega (arith, length-coordinates (without k (corners s)), length-without k (corners s) (able .known))
+  count = numbers-without k (corners s) (able .known)
 
   room : (i : ℕ) {out : List ℤ} → i ≤ length (corners s) - 1 → out ≡ copied out₀ (remains s k) (2 * i) → length out ≡ length out₀
   room i most is = ap length is ∙ copied-length out₀ (remains s k) (2 * i) (able .long) (omega (arith, count))

@@ -4,21 +4,21 @@ use mathlib.Core.List.{List}
 use mathlib.Core.Path.{_≡_, refl, sym, ap, _∙_}
 use lib.IntN.{ℤ}
 use Rattle.outline.specs.declared.Check.{Check}
-use Rattle.outline.specs.declared.Outcome.{Outcome}
-use Rattle.outline.specs.declared.Outcome.the-variants.{Refused}
+use Rattle.outline.specs.declared.Verdict.{Verdict}
+use Rattle.outline.specs.declared.Verdict.the-variants.{Refused}
 use Rattle.outline.specs.declared.Outline.{Outline}
 use Rattle.outline.specs.declared.Reading.{Reading}
 use Rattle.outline.specs.declared.RefusedSide.{RefusedSide}
 use Rattle.outline.specs.Corners.{corners}
 use Rattle.outline.specs.Reading.{check, outlineRead, reading}
-use Rattle.outline.specs.Refusal.{outcome}
+use Rattle.outline.specs.Refusal.{verdict}
 use Rattle.outline.proofs.Acceptance.{accepted}
 use Rattle.outline.proofs.read.Statement.{statement}
 use Rattle.outline.proofs.read.Tie as tie
 
-reading-is : (side : RefusedSide) (s : List ℤ) {c : Check} {o : Outcome} {l : Outline} → check s ≡ c → o ≡ outcome side c → l ≡ outlineRead c (corners s) → _≡_ {A = Reading} (record { outcome = o; outline = l }) (reading side s)
+reading-is : (side : RefusedSide) (s : List ℤ) {c : Check} {o : Verdict} {l : Outline} → check s ≡ c → o ≡ verdict side c → l ≡ outlineRead c (corners s) → _≡_ {A = Reading} (record { verdict = o; outline = l }) (reading side s)
 reading-is side s found ends reads = λ i. record {
-  outcome = (ends ∙ ap (outcome side) (sym found)) i;
+  verdict = (ends ∙ ap (verdict side) (sym found)) i;
   outline = (reads ∙ ap (λ (c : Check). outlineRead c (corners s)) (sym found)) i;
 }
 
@@ -29,7 +29,7 @@ enum-told : tie.Need-enum-told
 enum-told c = search needs
 
 hold-requires : tie.Need-hold-requires
-hold-requires c κs = accepted _ .0 (sym (c .before .before .check .ensures) ∙ c .enum-told .given .1) .1 .few
+hold-requires c κs = accepted _ .0 (sym (c .before .before .check .ensures) ∙ c .enum-told .given .1) .1 .at-most
 
 enum-known-f : tie.Need-enum-known-f
 enum-known-f c = search needs

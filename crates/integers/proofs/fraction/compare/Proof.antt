@@ -1,5 +1,4 @@
 -- `integers::fraction::compare` answers the order of the cross products: each arm's answer is what `order-parts` says.
--- Assumes nothing.
 use borrow.Author.Needs.{needs}
 use mathlib.Core.Path.{_≡_, _∙_}
 use Prim.Native.Nat.{_*_, _/_, _%_}

@@ -1,5 +1,4 @@
 -- `integers::fraction::compare_numbers` answers the order of its two numbers: each branch's tests say what its answer means.
--- Assumes nothing.
 use mathlib.Core.Path.{sym}
 use native.Mathlib.Omega.{arith}
 use Rattle.integers.proofs.FractionLaws.{order-unique}

@@ -1,5 +1,4 @@
 -- `integers::fraction::compare_remainders` meets its contract: the two products fit.
--- Assumes nothing.
 use borrow.Author.Needs.{needs}
 use Rattle.integers.proofs.FractionLaws.{remainder-fits}
 use Rattle.integers.proofs.fraction.compare_remainders.Statement.{statement}

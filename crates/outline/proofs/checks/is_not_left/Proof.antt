@@ -17,27 +17,28 @@ use Rattle.plane.proofs.Range.{span-⇀, span-difference, atMost-cross}
 use Rattle.outline.proofs.checks.is_not_left.Statement.{statement}
 use Rattle.outline.proofs.checks.is_not_left.Tie as tie
 
--- the three tests in a row
+-- three tests in a row
 module _ (c e f : ℕ) (b : Bool) where
   at-start : c ≡ e → false ≡ (not (eqb c e) && not (eqb c f) && b)
-  at-start p = rw (eq-eqb c e p)
+  at-start start = rw (eq-eqb c e start)
 
   at-end : (c ≡ e → ⊥) → c ≡ f → false ≡ (not (eqb c e) && not (eqb c f) && b)
-  at-end n p = rw (ne-eqb c e n, eq-eqb c f p)
+  at-end other end = rw (ne-eqb c e other, eq-eqb c f end)
 
   elsewhere : (c ≡ e → ⊥) → (c ≡ f → ⊥) → b ≡ (not (eqb c e) && not (eqb c f) && b)
-  elsewhere n m = rw (ne-eqb c e n, ne-eqb c f m)
+  elsewhere other another = rw (ne-eqb c e other, ne-eqb c f another)
 
 -- the side number is read back from 64 bits as it is
-sign-kept : {edge to : Vector} {p v : Corner} {z : ℤ} → Span reach edge → InRange p → InRange v → to ≡ p ⇀ v → z ≡ cross edge to → i64 z ≡ cross edge (p ⇀ v)
-sign-kept {edge} span p-in v-in runs is =
+side-read : {edge to : Vector} {p v : Corner} {z : ℤ}
+    → Span reach edge → InRange p → InRange v → to ≡ p ⇀ v → z ≡ cross edge to → i64 z ≡ cross edge (p ⇀ v)
+side-read {edge} span p-in v-in runs is =
     stored w64 (record { bound = atMost-cross span (span-⇀ p-in v-in); exact = is ∙ ap (cross edge) runs }) tt .exact
 
 returns : tie.Need-returns
 returns c = at-start _ _ _ _ (c .if1 .taken)
 
 returns-2 : tie.Need-returns-2
-returns-2 c = at-end _ _ _ _ (c .before .if1 .left) (c .if2 .taken)
+returns-2 c = at-end _ _ _ _ (c .before .before .if1 .left) (c .if2 .taken)
 
 difference-requires : tie.Need-difference-requires
 difference-requires c κs = search needs
@@ -47,9 +48,9 @@ side-requires c κs = search span-difference
 
 returns-3 : tie.Need-returns-3
 returns-3 c =
-    let pre = c .before .before .before .before .pre in
-    ap (λ (z : ℤ). leZ z (pos 0)) (sign-kept (pre .0) (pre .1 .0) (pre .1 .1) (c .before .difference .ensures) (c .side .ensures))
-    ∙ elsewhere _ _ _ _ (c .before .before .before .if1 .left) (c .before .before .if2 .left)
+    let pre = c .before .before .before .before .before .before .pre in
+    let side-is = side-read (pre .0) (pre .1 .0) (pre .1 .1) (c .before .difference .ensures) (c .side .ensures) in
+    ap (λ (z : ℤ). leZ z (pos 0)) side-is ∙ elsewhere _ _ _ _ (c .before .before .before .before .if1 .left) (c .before .before .if2 .left)
 
 pub is-not-left-spec : {M : Type 1} → statement M
 is-not-left-spec = tie.close (tie.spec returns returns-2 difference-requires side-requires returns-3)

@@ -12,7 +12,7 @@ place-requires c κs = search needs
 returns : tie.Need-returns
 returns c = λ i. record {
   number = c .before .number .ensures i;
-  side = c .before .before .args .side;
+  side = c .before .before .args .whose;
   place = c .place .ensures i;
 }
 

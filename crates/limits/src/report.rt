@@ -1,0 +1,66 @@
+// The lines of the program: a name, then `taken` or `refused` with document 01's number and place, then the corners of an outline
+// that was read or the list that was lent to a removal.
+use crate::print;
+use outline::Place;
+use outline::Refusal;
+use outline::Verdict;
+
+// A refusal's place: one number, or an edge and a corner.
+fn print_place(place: Place) {
+    match place {
+        Place::Nowhere => {}
+        Place::At(number) => {
+            print::text(b" at ");
+            print::natural(number as u64);
+        }
+        Place::EdgeAndCorner(edge, corner) => {
+            print::text(b" at ");
+            print::natural(edge as u64);
+            print::text(b" ");
+            print::natural(corner as u64);
+        }
+    }
+}
+
+fn print_refusal(refusal: Refusal) {
+    print::text(b"refused ");
+    print::natural(refusal.number as u64);
+    let place = refusal.place;
+    print_place(place);
+}
+
+fn print_verdict(name: &[u8], verdict: Verdict) {
+    print::text(name);
+    print::text(b": ");
+    match verdict {
+        Verdict::Taken => print::text(b"taken"),
+        Verdict::Refused(refusal) => print_refusal(refusal),
+    }
+}
+
+// Reads a list.
+pub fn reading(name: &[u8], s: &[i32]) {
+    let reading = calls::read_outline(s);
+    let verdict = reading.verdict;
+    print_verdict(name, verdict);
+    if let Verdict::Taken = verdict {
+        print::text(b", ");
+        print::natural(reading.outline.count as u64);
+        print::text(b" corners");
+    }
+    print::text(b"\n");
+}
+
+// Removes corner k of a list.
+pub fn removal(name: &[u8], s: &[i32], k: usize, out: &mut [i32]) {
+    print_verdict(name, calls::remove_corner(s, k, out));
+    print::text(b", list");
+    print::list(out);
+    print::text(b"\n");
+}
+
+// Removes corner k of a list that is too long to be printed.
+pub fn long_removal(name: &[u8], s: &[i32], k: usize, out: &mut [i32]) {
+    print_verdict(name, calls::remove_corner(s, k, out));
+    print::text(b"\n");
+}
