@@ -57,7 +57,8 @@ pub without-convex : (cs : List Corner) (k : ℕ) → k < length cs → Strictly
 without-convex cs k h convex =
     turns-convex (without k cs)
     λ i j l a b c. rw (corner-without k cs i, corner-without k cs j, corner-without k cs l)
-    (convex-turns cs convex (kept k i) (kept k j) (kept k l) (kept-mono k i j a) (kept-mono k j l b) (omega (arith, kept-≤ k l, length-without k cs h)))
+    (convex-turns cs convex (kept k i) (kept k j) (kept k l) (kept-mono k i j a) (kept-mono k j l b)
+    (omega (arith, kept-≤ k l, length-without k cs h)))
 
 pub without-accepted : (cs : List Corner) (k : ℕ) → Accepted cs → 4 ≤ length cs → k < length cs → Accepted (without k cs)
 without-accepted cs k a four h =

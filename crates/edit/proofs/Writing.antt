@@ -29,11 +29,20 @@ module _ (d s : List ℤ) where
   pub copied-all : (n : ℕ) → length d ≡ length s → n ≡ length s → copied n ≡ s
   copied-all n long all = rw (all, take-length, ← long, drop-length, append-nil)
 
-pub put-next : (d : List ℤ) (cs : List Corner) (j : ℕ) → length d ≡ length (coordinates cs) → j < length cs → putCorner (copied d (coordinates cs) (2 * j)) j (corner cs j) ≡ copied d (coordinates cs) (2 * (j + 1))
+pub put-next : (d : List ℤ) (cs : List Corner) (j : ℕ) → length d ≡ length (coordinates cs) → j < length cs
+    → putCorner (copied d (coordinates cs) (2 * j)) j (corner cs j) ≡ copied d (coordinates cs) (2 * (j + 1))
 put-next d cs j long below =
     let s = coordinates cs in
     let count = length-coordinates cs in
-    rw (← coordinate-x cs j, ← coordinate-y cs j, copied-suc d s (2 * j) (omega arith) (omega arith), odd, copied-suc d s (suc (2 * j)) (omega arith) (omega arith), next)
+    rw (
+      ← coordinate-x cs j,
+      ← coordinate-y cs j,
+      copied-suc d s (2 * j) (omega arith) (omega arith),
+      odd,
+      copied-suc d s
+          (suc (2 * j)) (omega arith) (omega arith),
+      next,
+    )
   where
     odd : 2 * j + 1 ≡ suc (2 * j)
     odd = omega arith

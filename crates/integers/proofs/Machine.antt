@@ -9,7 +9,7 @@
 --     fits                    it ends: the result fits its type. That it is z is `stored w r tt .exact`
 --     size-fits               a number that is not negative is cast to an unsigned type
 -- Each test `T (ltb bound (2 ^ ..))` computes, and is answered by `tt`.
-use mathlib.Core.Path.{_≡_, refl, sym, _∙_, ap}
+use mathlib.Core.Path.{_≡_, refl, _∙_}
 use mathlib.Core.Bool.{Bool, true, false, cond}
 use Prim.Native.Nat.{ℕ, zero, suc, _+_, _*_, _-_, _^_, _≤_}
 use native.Mathlib.Nat.{le-refl, le-trans, mul-le-mul, lt-of-le-of-lt}

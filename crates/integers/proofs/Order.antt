@@ -151,7 +151,8 @@ pub +ℤ-mono-≤ : {a b c d : ℤ} → a ≤ℤ b → c ≤ℤ d → (a +ℤ c)
 
 pub +ℤ-mono-<-≤ : {a b c d : ℤ} → a <ℤ b → c ≤ℤ d → (a +ℤ c) <ℤ (b +ℤ d)
 +ℤ-mono-<-≤ {a} {b} {c} {d} h k =
-    sucℤ-<ℤ (subst (λ x. x ≤ℤ (b +ℤ d)) (+ℤ-assoc a (pos 1) c ∙ ap (λ x. a +ℤ x) (+ℤ-comm (pos 1) c) ∙ sym (+ℤ-assoc a c (pos 1))) (+ℤ-mono-≤ (<ℤ-sucℤ h) k))
+    sucℤ-<ℤ
+    (subst (λ x. x ≤ℤ (b +ℤ d)) (+ℤ-assoc a (pos 1) c ∙ ap (λ x. a +ℤ x) (+ℤ-comm (pos 1) c) ∙ sym (+ℤ-assoc a c (pos 1))) (+ℤ-mono-≤ (<ℤ-sucℤ h) k))
 
 pub +ℤ-mono-≤-< : {a b c d : ℤ} → a ≤ℤ b → c <ℤ d → (a +ℤ c) <ℤ (b +ℤ d)
 +ℤ-mono-≤-< {a} {b} {c} {d} h k = subst₂ _<ℤ_ (+ℤ-comm c a) (+ℤ-comm d b) (+ℤ-mono-<-≤ k h)

@@ -138,7 +138,8 @@ module _ (env : List ℤ) where
   val-shift a (con b) = refl
   val-shift a (node i p q) = ap (λ y. at i *ℤ val p +ℤ y) (val-shift a q) ∙ +ℤ-left (at i *ℤ val p) a (val q)
 
-  val-merge : (i : ℕ) (p : Poly) (f g : Poly → Poly) (z : ℤ) → ((r : Poly) → val (f r) ≡ val p +ℤ val r) → ((s : Poly) → val (g s) ≡ z +ℤ val s)
+  val-merge : (i : ℕ) (p : Poly) (f g : Poly → Poly) (z : ℤ) → ((r : Poly) → val (f r) ≡ val p +ℤ val r)
+      → ((s : Poly) → val (g s) ≡ z +ℤ val s)
       → (q : Poly) → val (merge i p f g q) ≡ (at i *ℤ val p +ℤ z) +ℤ val q
   val-merge i p f g z hf hg (con b) = ap (λ y. at i *ℤ val p +ℤ y) (hg (con b)) ∙ sym (+ℤ-assoc (at i *ℤ val p) z b)
   val-merge i p f g z hf hg (node j r s) = val-choose (compare i j) _ _ _ _
@@ -183,7 +184,8 @@ module _ (env : List ℤ) where
   val-vanishes : (p : Poly) → T (vanishes p) → val p ≡ pos 0
   val-vanishes (con c) t = isZero-is c t
   val-vanishes (node i p q) t =
-      ap₂ (λ y w. at i *ℤ y +ℤ w) (val-vanishes p (and-yes (vanishes p) (vanishes q) t .0)) (val-vanishes q (and-yes (vanishes p) (vanishes q) t .1))
+      ap₂ (λ y w. at i *ℤ y +ℤ w) (val-vanishes p (and-yes (vanishes p) (vanishes q) t .0))
+      (val-vanishes q (and-yes (vanishes p) (vanishes q) t .1))
       ∙ +ℤ-idr (at i *ℤ pos 0) ∙ *ℤ-zero (at i)
 
   pub null-eval : (e : Expr) → T (null e) → eval env e ≡ pos 0

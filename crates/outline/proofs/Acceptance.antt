@@ -78,7 +78,8 @@ accepted-distinct {cs} ok i below same = <ℤ-irrefl (subst (λ z. pos 0 <ℤ z)
 
     left : pos 0 <ℤ side (corner cs i) (corner cs (next n i)) (corner cs third)
     left =
-        ok .convex i third below (next-below n (next n i) (omega arith)) (next-next-other n i (ok .at-least)) (next-other n (next n i) (omega arith))
+        ok .convex i third below (next-below n (next n i) (omega arith)) (next-next-other n i (ok .at-least))
+        (next-other n (next n i) (omega arith))
 
     on-line : side (corner cs i) (corner cs (next n i)) (corner cs third) ≡ pos 0
     on-line = ap (λ q. side (corner cs i) q (corner cs third)) (sym same) ∙ side-same (corner cs i) (corner cs third)

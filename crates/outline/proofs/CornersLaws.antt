@@ -67,7 +67,8 @@ twice-suc i = omega arith
 twice-suc-one : (i : ℕ) → suc (suc (2 * i)) + 1 ≡ suc (suc (2 * i + 1))
 twice-suc-one i = omega arith
 
-pub corner-at : (s : List ℤ) (i : ℕ) → i < length (corners s) → corner (corners s) i ≡ record { x = getD s (2 * i) (pos 0); y = getD s (2 * i + 1) (pos 0) }
+pub corner-at : (s : List ℤ) (i : ℕ) → i < length (corners s)
+    → corner (corners s) i ≡ record { x = getD s (2 * i) (pos 0); y = getD s (2 * i + 1) (pos 0) }
 unfolding corners
 corner-at [] i below = refl
 corner-at (x ∷ []) i below = absurd (omega arith)

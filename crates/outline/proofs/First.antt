@@ -76,7 +76,8 @@ module _ (check : ℕ → Check) where
 
   pub each-failed : (n : ℕ) (f : Fault) → (each check n 0 ≡ Failed f) ↔ First check n f
   each-failed n f = (
-    λ e. ⊎-elim (λ pass. absurd (passed≢failed (all-passed n pass) e)) (λ first. subst (First check n) (failed-inj (first-failed (first .1)) e) (first .1)) (scan n),
+    λ e. ⊎-elim (λ pass. absurd (passed≢failed (all-passed n pass) e))
+        (λ first. subst (First check n) (failed-inj (first-failed (first .1)) e) (first .1)) (scan n),
     first-failed,
   )
 
@@ -100,7 +101,12 @@ module _ {P : ℕ → Type 0} {check : ℕ → Check} (decides : FailsWhere P ch
       lowest first = (
         first .place,
         first .fails,
-        record { below = first .below; here = decides .holds (first .place) f (first .fails); lowest = λ j lower. decides .not-holds j (first .earlier j lower) },
+        record {
+          below = first .below;
+          here = decides .holds (first .place) f
+              (first .fails);
+          lowest = λ j lower. decides .not-holds j (first .earlier j lower);
+        },
       )
 
       first : (i : ℕ) × (check i ≡ Failed f) × Lowest P n i → First check n f

@@ -4,7 +4,7 @@
 --     reading-count, reading-corner    document 01: of a list that is taken, the count is half its length, and corner i is
 --                               numbers 2 i and 2 i + 1
 use Prim.Native.Nat.{ℕ, _+_, _*_, _-_, _/_, _<_, _≤_}
-use mathlib.Core.Path.{_≡_, refl, sym, ap, _∙_}
+use mathlib.Core.Path.{_≡_, ap, _∙_}
 use mathlib.Core.List.{List, _++_}
 use native.Mathlib.Omega.{arith}
 use lib.IntN.{ℤ, pos}
@@ -31,7 +31,8 @@ module _ (cs : List Corner) where
   pub held-unused : (i : ℕ) → length cs ≤ i → i < most → corner (held cs .corners) i ≡ origin
   unfolding held
   held-unused i past below =
-      ap (λ (k : ℕ). getD (cs ++ rest) k origin) split ∙ getD-append-add cs rest (i - length cs) origin ∙ getD-replicate (most - length cs) (i - length cs) origin origin (omega arith)
+      ap (λ (k : ℕ). getD (cs ++ rest) k origin) split ∙ getD-append-add cs rest (i - length cs) origin ∙ getD-replicate
+      (most - length cs) (i - length cs) origin origin (omega arith)
     where
       rest : List Corner
       rest = replicate (most - length cs) origin
@@ -47,6 +48,8 @@ module _ (side : RefusedSide) (s : List ℤ) (taken : check s ≡ Passed) where
   unfolding held
   reading-count = ap (λ (o : Outline). o .count) holds ∙ length-corners s
 
-  pub reading-corner : (i : ℕ) → i < length s / 2 → corner (reading side s .outline .corners) i ≡ record { x = getD s (2 * i) (pos 0); y = getD s (2 * i + 1) (pos 0) }
+  pub reading-corner : (i : ℕ) → i < length s / 2
+      → corner (reading side s .outline .corners) i ≡ record { x = getD s (2 * i) (pos 0); y = getD s (2 * i + 1) (pos 0) }
   reading-corner i below =
-      ap (λ (o : Outline). corner (o .corners) i) holds ∙ held-corner (corners s) i (rw length-corners below) ∙ corner-at s i (rw length-corners below)
+      ap (λ (o : Outline). corner (o .corners) i) holds ∙ held-corner (corners s) i (rw length-corners below) ∙ corner-at s i
+      (rw length-corners below)

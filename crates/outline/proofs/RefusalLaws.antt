@@ -7,14 +7,12 @@ use Prim.Native.Nat.{ℕ, _<_, _%_}
 use mathlib.Core.Path.{_≡_, refl, sym, ap, _∙_}
 use mathlib.Core.Logic.{_↔_, Iff·trans}
 use mathlib.Core.List.{List, [], _∷_}
-use native.Mathlib.Omega.{arith}
 use lib.IntN.{ℤ}
 use lib.ListN.{length, getD}
 use Rattle.outline.specs.declared.Fault.{Fault}
 use Rattle.outline.specs.declared.Fault.the-variants.{OddLength, TooFewCorners, TooManyCorners, OutOfRange, Repeated, NotLeft, NoSuchCorner, WrongLength}
 use Rattle.outline.specs.declared.Check.{Check}
 use Rattle.outline.specs.declared.Check.the-variants.{Passed, Failed}
-use Rattle.outline.specs.declared.Verdict.{Verdict}
 use Rattle.outline.specs.declared.Verdict.the-variants.{Taken, Refused}
 use Rattle.outline.specs.declared.Place.{Place}
 use Rattle.outline.specs.declared.Place.the-variants.{Nowhere, At, EdgeAndCorner}
@@ -41,7 +39,8 @@ second (EdgeAndCorner e c) = c
 -- the faults by their numbers; 0 and 7 are none
 abbrev faultOf : ℕ → Place → Fault
 faultOf n p =
-    getD (OddLength ∷ OddLength ∷ TooFewCorners ∷ TooManyCorners ∷ OutOfRange (first p) ∷ Repeated (first p) ∷ NotLeft (first p) (second p) ∷ OddLength ∷ NoSuchCorner ∷ WrongLength ∷ []) n OddLength
+    getD (OddLength ∷ OddLength ∷ TooFewCorners ∷ TooManyCorners ∷ OutOfRange (first p) ∷ Repeated (first p) ∷ NotLeft (first p)
+    (second p) ∷ OddLength ∷ NoSuchCorner ∷ WrongLength ∷ []) n OddLength
 
 told : (f : Fault) → faultOf (number f) (place f) ≡ f
 told OddLength = refl
@@ -70,5 +69,6 @@ module _ (side : RefusedSide) where
     pub reading-taken : (reading side s .verdict ≡ Taken) ↔ ((length s % 2 ≡ 0) × Accepted (corners s))
     reading-taken = Iff·trans (verdict-taken (check s)) (accepted s)
 
-    pub reading-refused : (f : Fault) → (reading side s .verdict ≡ Refused (refusal side f)) ↔ (Applies s f × ((g : Fault) → rank g < rank f → ¬ Applies s g))
+    pub reading-refused : (f : Fault)
+        → (reading side s .verdict ≡ Refused (refusal side f)) ↔ (Applies s f × ((g : Fault) → rank g < rank f → ¬ Applies s g))
     reading-refused f = Iff·trans (verdict-refused (check s) f) (first-stands s f)

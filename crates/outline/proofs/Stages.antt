@@ -74,9 +74,11 @@ module _ (cs : List Corner) where
   pub outOfRange-passed : outOfRange cs ≡ Passed → (i : ℕ) → i < n → InRange (corner cs i)
   unfolding outOfRange
   outOfRange-passed passes i below =
-      test-stable (inRange (corner cs i)) (inRange-true (corner cs i)) (each-none (test-fails _ outOfRange-true OutOfRange) n .0 passes i below)
+      test-stable (inRange (corner cs i)) (inRange-true (corner cs i))
+      (each-none (test-fails _ outOfRange-true OutOfRange) n .0 passes i below)
 
-  repeated-failed : (f : Fault) → (repeated cs ≡ Failed f) ↔ ((i : ℕ) × (Repeated i ≡ f) × Lowest (λ i. corner cs i ≡ corner cs (next n i)) n i)
+  repeated-failed : (f : Fault)
+      → (repeated cs ≡ Failed f) ↔ ((i : ℕ) × (Repeated i ≡ f) × Lowest (λ i. corner cs i ≡ corner cs (next n i)) n i)
   unfolding repeated
   repeated-failed = test-lowest _ repeated-true Repeated n
 
@@ -105,7 +107,8 @@ module _ (cs : List Corner) where
   pub notLeft-passed : notLeft cs ≡ Passed → StrictlyConvex cs
   unfolding notLeft
   notLeft-passed passes e c e-below c-below not-start not-end =
-      ≰ℤ-<ℤ (λ le. each-none notLeftOf-fails n .0 passes e e-below (c, c-below, record { not-start = not-start; not-end = not-end; not-left = le }))
+      ≰ℤ-<ℤ
+      (λ le. each-none notLeftOf-fails n .0 passes e e-below (c, c-below, record { not-start = not-start; not-end = not-end; not-left = le }))
 
 -- ---- all ranks
 module _ (s : List ℤ) where

@@ -107,5 +107,6 @@ lagrange a b =
 -- with the four products as the variables: a square is not negative
 pub cauchy-schwarz : (a b : Vector) → (dot a b *ℤ dot a b) ≤ℤ (dot a a *ℤ dot b b)
 cauchy-schwarz a b =
-    prove (cross a b ∷ dot a b ∷ dot a a ∷ dot b b ∷ []) (var 0 ⊗ var 0 ⊕ var 1 ⊗ var 1 ≗ var 2 ⊗ var 3 ∷ []) (var 1 ⊗ var 1 ≼ var 2 ⊗ var 3)
+    prove (cross a b ∷ dot a b ∷ dot a a ∷ dot b b ∷ []) (var 0 ⊗ var 0 ⊕ var 1 ⊗ var 1 ≗ var 2 ⊗ var 3 ∷ [])
+    (var 1 ⊗ var 1 ≼ var 2 ⊗ var 3)
     (hyp 0 ⊞ sq (var 0) ⊞ eqn 1 (lit (pos 1))) tt (lagrange a b)

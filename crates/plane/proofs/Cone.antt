@@ -13,7 +13,8 @@ use Rattle.plane.specs.declared.Corner.{Corner}
 use Rattle.plane.specs.declared.Vector.{Vector}
 use Rattle.plane.proofs.Algebra.{O, vec, crossE, dotE, sideE, components}
 
-pub cone : (e f d u : Vector) → pos 0 <ℤ cross e f → pos 0 ≤ℤ cross e d → pos 0 ≤ℤ cross f d → pos 0 ≤ℤ dot u e → dot u f ≤ℤ pos 0 → dot u d ≤ℤ pos 0
+pub cone : (e f d u : Vector) → pos 0 <ℤ cross e f → pos 0 ≤ℤ cross e d → pos 0 ≤ℤ cross f d → pos 0 ≤ℤ dot u e
+    → dot u f ≤ℤ pos 0 → dot u d ≤ℤ pos 0
 unfolding cross dot
 cone e f d u =
     let e' = vec 0 in let f' = vec 2 in let d' = vec 4 in let u' = vec 6 in
@@ -38,7 +39,8 @@ turn-previous e f d =
     (hyp 0 ⊠ hyp 3 ⊞ hyp 1 ⊠ sq (d' .x) ⊞ hyp 1 ⊠ sq (d' .y) ⊞ hyp 2 ⊠ hyp 4) tt
 
 -- Left of a to b and of b to c is not enough: d might lie inside the triangle. The edge comes from s.
-pub left-of-chord : (a b c d s : Corner) → pos 0 <ℤ side b c d → pos 0 ≤ℤ side a b d → pos 0 <ℤ side s d a → pos 0 ≤ℤ side s d b → pos 0 ≤ℤ side s d c → pos 0 <ℤ side a c d
+pub left-of-chord : (a b c d s : Corner) → pos 0 <ℤ side b c d → pos 0 ≤ℤ side a b d → pos 0 <ℤ side s d a
+    → pos 0 ≤ℤ side s d b → pos 0 ≤ℤ side s d c → pos 0 <ℤ side a c d
 unfolding cross _⇀_
 left-of-chord a b c d s =
     let a' = vec 0 in let b' = vec 2 in let c' = vec 4 in let d' = vec 6 in let s' = vec 8 in

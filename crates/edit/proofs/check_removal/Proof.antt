@@ -1,15 +1,10 @@
 -- `edit::check_removal` checks the list and then makes the three tests in order.
 use borrow.Author.Needs.{needs}
-use mathlib.Core.Path.{_≡_, sym, _∙_}
+use mathlib.Core.Path.{sym, _∙_}
 use native.Mathlib.Omega.{arith}
-use Prim.Native.Nat.{ℕ, _<_, _-_, _*_}
-use mathlib.Core.List.{List}
-use lib.IntN.{ℤ}
-use lib.ListN.{length}
-use Rattle.plane.specs.Vector.{coordinates}
 use Rattle.outline.specs.Corners.{corners}
 use Rattle.outline.proofs.CornersLaws.{corners-fit}
-use Rattle.edit.specs.Removal.{without, unread, unknown, just-three, wrong-length}
+use Rattle.edit.specs.Removal.{unread, unknown, just-three, wrong-length}
 use Rattle.edit.proofs.Removal.{stands-failed, removal-passed}
 use Rattle.edit.proofs.Without.{numbers-without}
 use Rattle.edit.proofs.check_removal.Statement.{statement}
@@ -49,14 +44,16 @@ mul-if3 c = omega (arith, corners-fit (c .before .before .before .before .before
 returns-4 : tie.Need-returns-4
 returns-4 c =
     let a = c .before .before .before .before .before .before .before .args in
-    let taken = sym (c .before .before .before .before .before .before .check .ensures) ∙ c .before .before .before .before .enum-told .given .1 in
+    let taken = sym (c .before .before .before .before .before .before .check .ensures)
+    ∙ c .before .before .before .before .enum-told .given .1 in
     let left = numbers-without (a .k) (corners (a .s .now)) (omega arith) in
     sym (stands-failed _ _ _ (wrong-length taken (omega arith) (omega arith) (omega arith)))
 
 returns-5 : tie.Need-returns-5
 returns-5 c =
     let a = c .before .before .before .before .before .before .before .args in
-    let taken = sym (c .before .before .before .before .before .before .check .ensures) ∙ c .before .before .before .before .enum-told .given .1 in
+    let taken = sym (c .before .before .before .before .before .before .check .ensures)
+    ∙ c .before .before .before .before .enum-told .given .1 in
     let left = numbers-without (a .k) (corners (a .s .now)) (omega arith) in
     sym (removal-passed _ _ _ .1 (record { taken = taken; known = omega arith; more = omega arith; long = omega arith }))
 

@@ -26,7 +26,8 @@ module _ {s : List ℤ} {k : ℕ} {out₀ : List ℤ} (able : Removable s k out�
   room : (i : ℕ) {out : List ℤ} → i ≤ length (corners s) - 1 → out ≡ copied out₀ (remains s k) (2 * i) → length out ≡ length out₀
   room i most is = ap length is ∙ copied-length out₀ (remains s k) (2 * i) (able .long) (omega (arith, count))
 
-  put : (i : ℕ) {j : ℕ} {out : List ℤ} {p : Corner} → i < length (corners s) - 1 → out ≡ copied out₀ (remains s k) (2 * i) → j ≡ kept k i → p ≡ corner (corners s) j → putCorner out i p ≡ copied out₀ (remains s k) (2 * (i + 1))
+  put : (i : ℕ) {j : ℕ} {out : List ℤ} {p : Corner} → i < length (corners s) - 1 → out ≡ copied out₀ (remains s k) (2 * i)
+      → j ≡ kept k i → p ≡ corner (corners s) j → putCorner out i p ≡ copied out₀ (remains s k) (2 * (i + 1))
   put i below is from read =
       rw (is, read, from, ← corner-without k (corners s) i)
       (put-next out₀ (without k (corners s)) i (able .long) (omega (arith, length-without k (corners s) (able .known))))
@@ -55,7 +56,8 @@ corner-requires c κs = omega (arith, kept-≤ (c .before .before .before .befor
 put-corner-requires : tie.Need-put-corner-requires Inv-loop μ-loop
 put-corner-requires c κs =
     let able = c .before .before .before .before .before .before .pre in
-    omega (arith, room able (c .before .before .before .before .loop .i) (omega arith) (c .before .before .before .before .loop .inv .1), count able)
+    omega
+    (arith, room able (c .before .before .before .before .loop .i) (omega arith) (c .before .before .before .before .loop .inv .1), count able)
 
 add-i : tie.Need-add-i Inv-loop μ-loop
 add-i c = omega arith
@@ -65,8 +67,12 @@ loop-less c = omega arith
 
 loop-again : tie.Need-loop-again Inv-loop μ-loop
 loop-again c =
-    let able = c .before .before .before .before .before .before .before .before .pre in
-    (omega arith, c .before .put-corner .ensures ∙ put able _ (omega arith) (c .before .before .before .before .before .before .loop .inv .1) (c .before .before .before .kept .ensures) (c .before .before .corner .ensures))
+    let able = c .before .before .before .before .before .before .before .before .pre in (
+      omega arith,
+      c .before .put-corner .ensures ∙ put able _ (omega arith)
+          (c .before .before .before .before .before .before .loop .inv .1) (c .before .before .before .kept .ensures)
+          (c .before .before .corner .ensures),
+    )
 
 same-length : tie.Need-same-length Inv-loop μ-loop
 same-length c =

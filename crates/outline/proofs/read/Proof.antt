@@ -16,7 +16,8 @@ use Rattle.outline.proofs.Acceptance.{accepted}
 use Rattle.outline.proofs.read.Statement.{statement}
 use Rattle.outline.proofs.read.Tie as tie
 
-reading-is : (side : RefusedSide) (s : List ℤ) {c : Check} {o : Verdict} {l : Outline} → check s ≡ c → o ≡ verdict side c → l ≡ outlineRead c (corners s) → _≡_ {A = Reading} (record { verdict = o; outline = l }) (reading side s)
+reading-is : (side : RefusedSide) (s : List ℤ) {c : Check} {o : Verdict} {l : Outline} → check s ≡ c → o ≡ verdict side c
+    → l ≡ outlineRead c (corners s) → _≡_ {A = Reading} (record { verdict = o; outline = l }) (reading side s)
 reading-is side s found ends reads = λ i. record {
   verdict = (ends ∙ ap (verdict side) (sym found)) i;
   outline = (reads ∙ ap (λ (c : Check). outlineRead c (corners s)) (sym found)) i;
@@ -46,7 +47,8 @@ returns c =
 
 returns-2 : tie.Need-returns-2
 returns-2 c =
-    reading-is _ _ (sym (c .before .before .before .before .before .check .ensures) ∙ c .before .before .before .f .given .1) (ap Refused (c .before .refusal .ensures)) (c .none .ensures)
+    reading-is _ _ (sym (c .before .before .before .before .before .check .ensures) ∙ c .before .before .before .f .given .1)
+    (ap Refused (c .before .refusal .ensures)) (c .none .ensures)
 
 pub read-spec : {M : Type 1} → statement M
 read-spec =

@@ -19,7 +19,8 @@ unfolding inRange
 returns c =
     let x-fits : SFits w32 (c .before .before .before .before .before .args .p .x) = search sfits-of in
     let y-fits : SFits w32 (c .before .before .before .before .before .args .p .y) = search sfits-of in
-    and-then _ (rw (toZ-ofZ x-fits) at (c .before .before .before .is-coordinate .ensures)) (rw (toZ-ofZ y-fits) at (c .is-coordinate2 .ensures)) (c .before .before .if1 .taken)
+    and-then _ (rw (toZ-ofZ x-fits) at (c .before .before .before .is-coordinate .ensures))
+    (rw (toZ-ofZ y-fits) at (c .is-coordinate2 .ensures)) (c .before .before .if1 .taken)
 
 returns-2 : tie.Need-returns-2
 unfolding inRange

@@ -24,7 +24,8 @@ returns c =
     let py : SFits w32 (p .y) = search sfits-of in
     let qx : SFits w32 (q .x) = search sfits-of in
     let qy : SFits w32 (q .y) = search sfits-of in
-    and-then _ (rw (toZ-ofZ px, toZ-ofZ qx) at (c .before .before .before .before .equal .ensures)) (rw (toZ-ofZ py, toZ-ofZ qy) at (c .equal2 .ensures)) (c .before .before .before .if1 .taken)
+    and-then _ (rw (toZ-ofZ px, toZ-ofZ qx) at (c .before .before .before .before .equal .ensures))
+    (rw (toZ-ofZ py, toZ-ofZ qy) at (c .equal2 .ensures)) (c .before .before .before .if1 .taken)
 
 returns-2 : tie.Need-returns-2
 unfolding same

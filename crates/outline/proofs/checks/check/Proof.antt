@@ -13,7 +13,8 @@ use Rattle.outline.proofs.checks.check.Statement.{statement}
 use Rattle.outline.proofs.checks.check.Tie as tie
 
 -- the first three checks are made by one function
-grouped : (s : List ℤ) → (oddLength s orElse tooFew (corners s) orElse tooMany (corners s)) orElse outOfRange (corners s) orElse repeated (corners s) orElse notLeft (corners s) ≡ check s
+grouped : (s : List ℤ)
+    → (oddLength s orElse tooFew (corners s) orElse tooMany (corners s)) orElse outOfRange (corners s) orElse repeated (corners s) orElse notLeft (corners s) ≡ check s
 unfolding check
 grouped s =
     orElse-assoc (oddLength s) _ _ ∙ ap (λ (c : Check). oddLength s orElse c) (orElse-assoc (tooFew (corners s)) _ _)
@@ -38,7 +39,8 @@ enum-known-f-2 c = search needs
 
 returns-2 : tie.Need-returns-2
 returns-2 c =
-    goes-on _ (c .before .before .before .before .before .before .check-count .ensures) (c .before .before .before .before .enum-told .given .1)
+    goes-on _ (c .before .before .before .before .before .before .check-count .ensures)
+    (c .before .before .before .before .enum-told .given .1)
     (stops _ (c .before .before .before .check-range .ensures) (c .before .f2 .given .1)) ∙ grouped _
 
 enum-told-2 : tie.Need-enum-told-2
@@ -52,7 +54,8 @@ enum-known-f-3 c = search needs
 
 returns-3 : tie.Need-returns-3
 returns-3 c =
-    goes-on _ (c .before .before .before .before .before .before .before .before .before .check-count .ensures) (c .before .before .before .before .before .before .before .enum-told .given .1)
+    goes-on _ (c .before .before .before .before .before .before .before .before .before .check-count .ensures)
+    (c .before .before .before .before .before .before .before .enum-told .given .1)
     (goes-on _ (c .before .before .before .before .before .before .check-range .ensures) (c .before .before .before .before .enum-told2 .given .1)
     (stops _ (c .before .before .before .check-repeated .ensures) (c .before .f3 .given .1))) ∙ grouped _
 
@@ -61,13 +64,16 @@ enum-told-3 c = search needs
 
 check-convex-requires : tie.Need-check-convex-requires
 check-convex-requires c κs =
-    outOfRange-passed (corners _) (sym (c .before .before .before .before .before .check-range .ensures) ∙ c .before .before .before .enum-told2 .given .1)
+    outOfRange-passed (corners _)
+    (sym (c .before .before .before .before .before .check-range .ensures) ∙ c .before .before .before .enum-told2 .given .1)
 
 returns-4 : tie.Need-returns-4
 returns-4 c =
-    goes-on _ (c .before .before .before .before .before .before .before .before .before .check-count .ensures) (c .before .before .before .before .before .before .before .enum-told .given .1)
+    goes-on _ (c .before .before .before .before .before .before .before .before .before .check-count .ensures)
+    (c .before .before .before .before .before .before .before .enum-told .given .1)
     (goes-on _ (c .before .before .before .before .before .before .check-range .ensures) (c .before .before .before .before .enum-told2 .given .1)
-    (goes-on _ (c .before .before .before .check-repeated .ensures) (c .before .enum-told3 .given .1) (c .check-convex .ensures))) ∙ grouped _
+    (goes-on _ (c .before .before .before .check-repeated .ensures) (c .before .enum-told3 .given .1) (c .check-convex .ensures)))
+    ∙ grouped _
 
 pub check-spec : {M : Type 1} → statement M
 check-spec =

@@ -31,7 +31,8 @@ enum-known-f c = search needs
 returns : tie.Need-returns Inv-loop μ-loop
 unfolding notLeft
 returns c =
-    scan-found (c .before .before .before .before .before .loop .inv) (omega arith) (sym (c .before .before .before .check-edge .ensures) ∙ c .before .f .given .1)
+    scan-found (c .before .before .before .before .before .loop .inv) (omega arith)
+    (sym (c .before .before .before .check-edge .ensures) ∙ c .before .f .given .1)
 
 enum-told : tie.Need-enum-told Inv-loop μ-loop
 enum-told c = search needs
@@ -44,7 +45,8 @@ loop-less c = omega arith
 
 loop-again : tie.Need-loop-again Inv-loop μ-loop
 loop-again c =
-    scan-on (c .before .before .before .before .loop .inv) (omega arith) (sym (c .before .before .check-edge .ensures) ∙ c .enum-told .given .1)
+    scan-on (c .before .before .before .before .loop .inv) (omega arith)
+    (sym (c .before .before .check-edge .ensures) ∙ c .enum-told .given .1)
 
 returns-2 : tie.Need-returns-2 Inv-loop μ-loop
 unfolding notLeft

@@ -14,10 +14,24 @@ returns-2 : tie.Need-returns-2
 returns-2 c = rw (ne-eqb _ 1 (c .before .before .if1 .left), ← c .before .count .ensures, lt-ltb _ 3 (c .if2 .taken))
 
 returns-3 : tie.Need-returns-3
-returns-3 c = rw (ne-eqb _ 1 (c .before .before .before .if1 .left), ← c .before .before .count .ensures, le-ltb _ 3 (c .before .if2 .left), lt-ltb 256 _ (c .if3 .taken))
+returns-3 c =
+    rw (
+      ne-eqb _ 1 (c .before .before .before .if1 .left),
+      ← c .before .before .count .ensures,
+      le-ltb _ 3
+          (c .before .if2 .left),
+      lt-ltb 256 _ (c .if3 .taken),
+    )
 
 returns-4 : tie.Need-returns-4
-returns-4 c = rw (ne-eqb _ 1 (c .before .before .before .if1 .left), ← c .before .before .count .ensures, le-ltb _ 3 (c .before .if2 .left), le-ltb 256 _ (c .if3 .left))
+returns-4 c =
+    rw (
+      ne-eqb _ 1 (c .before .before .before .if1 .left),
+      ← c .before .before .count .ensures,
+      le-ltb _ 3
+          (c .before .if2 .left),
+      le-ltb 256 _ (c .if3 .left),
+    )
 
 pub check-count-spec : {M : Type 1} → statement M
 check-count-spec = tie.close (tie.spec returns count-requires returns-2 returns-3 returns-4)

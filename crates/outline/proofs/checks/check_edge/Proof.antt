@@ -66,7 +66,8 @@ returns : tie.Need-returns Inv-loop μ-loop
 unfolding notLeftOf
 returns c =
     scan-found (c .before .before .before .before .loop .inv) (omega arith)
-    (decided _ _ _ (c .before .before .before .before .before .take-edge .ensures) (c .before .before .corner .ensures) (c .before .is-not-left .ensures) (c .if1 .taken))
+    (decided _ _ _ (c .before .before .before .before .before .take-edge .ensures) (c .before .before .corner .ensures)
+    (c .before .is-not-left .ensures) (c .if1 .taken))
 
 add-c : tie.Need-add-c Inv-loop μ-loop
 add-c c = omega arith
@@ -77,7 +78,8 @@ loop-less c = omega arith
 loop-again : tie.Need-loop-again Inv-loop μ-loop
 loop-again c =
     scan-on (c .before .before .before .before .loop .inv) (omega arith)
-    (decided _ _ _ (c .before .before .before .before .before .take-edge .ensures) (c .before .before .corner .ensures) (c .before .is-not-left .ensures) (c .if1 .left))
+    (decided _ _ _ (c .before .before .before .before .before .take-edge .ensures) (c .before .before .corner .ensures)
+    (c .before .is-not-left .ensures) (c .if1 .left))
 
 returns-2 : tie.Need-returns-2 Inv-loop μ-loop
 unfolding notLeftOf

@@ -22,7 +22,8 @@ abbrev at : List ℤ → ℕ → Check
 at s i = failIf (not (inRange (corner (corners s) i))) (OutOfRange i)
 
 -- the check at i is decided by what `in_range` answers of the corner that was read there
-decided : (s : List ℤ) (i : ℕ) {p : Corner} {r t : Bool} → p ≡ corner (corners s) i → r ≡ inRange p → not r ≡ t → at s i ≡ failIf t (OutOfRange i)
+decided : (s : List ℤ) (i : ℕ) {p : Corner} {r t : Bool} → p ≡ corner (corners s) i → r ≡ inRange p → not r ≡ t
+    → at s i ≡ failIf t (OutOfRange i)
 decided s i read answer tested = ap (λ (b : Bool). failIf b (OutOfRange i)) (ap not (sym (answer ∙ ap inRange read)) ∙ tested)
 
 abbrev Inv-loop : tie.InvT-loop
@@ -45,7 +46,9 @@ in-range-requires c κs = search needs
 
 returns : tie.Need-returns Inv-loop μ-loop
 unfolding outOfRange
-returns c = scan-found (c .before .before .before .before .loop .inv) (omega arith) (decided _ _ (c .before .before .corner .ensures) (c .before .in-range .ensures) (c .if1 .taken))
+returns c =
+    scan-found (c .before .before .before .before .loop .inv) (omega arith)
+    (decided _ _ (c .before .before .corner .ensures) (c .before .in-range .ensures) (c .if1 .taken))
 
 add-i : tie.Need-add-i Inv-loop μ-loop
 add-i c = omega arith
@@ -54,7 +57,9 @@ loop-less : tie.Need-loop-less Inv-loop μ-loop
 loop-less c = omega arith
 
 loop-again : tie.Need-loop-again Inv-loop μ-loop
-loop-again c = scan-on (c .before .before .before .before .loop .inv) (omega arith) (decided _ _ (c .before .before .corner .ensures) (c .before .in-range .ensures) (c .if1 .left))
+loop-again c =
+    scan-on (c .before .before .before .before .loop .inv) (omega arith)
+    (decided _ _ (c .before .before .corner .ensures) (c .before .in-range .ensures) (c .if1 .left))
 
 returns-2 : tie.Need-returns-2 Inv-loop μ-loop
 unfolding outOfRange

@@ -23,7 +23,8 @@ abbrev at : List ℤ → ℕ → Check
 at s i = failIf (same (corner (corners s) i) (corner (corners s) (next (length (corners s)) i))) (Repeated i)
 
 -- the check at i is decided by what `same` answers of the corners that were read
-decided : (s : List ℤ) (i : ℕ) {n j : ℕ} {p q : Corner} {r t : Bool} → n ≡ length (corners s) → j ≡ next n i → p ≡ corner (corners s) i → q ≡ corner (corners s) j → r ≡ same p q → r ≡ t → at s i ≡ failIf t (Repeated i)
+decided : (s : List ℤ) (i : ℕ) {n j : ℕ} {p q : Corner} {r t : Bool} → n ≡ length (corners s) → j ≡ next n i
+    → p ≡ corner (corners s) i → q ≡ corner (corners s) j → r ≡ same p q → r ≡ t → at s i ≡ failIf t (Repeated i)
 decided s i counted follows read read-next answer tested = cc
 
 abbrev Inv-loop : tie.InvT-loop
@@ -52,7 +53,11 @@ same-requires c κs = search needs
 
 returns : tie.Need-returns Inv-loop μ-loop
 unfolding repeated
-returns c = scan-found (c .before .before .before .before .before .before .loop .inv) (omega arith) (decided _ _ (c .before .before .before .before .before .before .before .count .ensures) (c .before .before .before .next .ensures) (c .before .before .before .before .corner .ensures) (c .before .before .corner2 .ensures) (c .before .same .ensures) (c .if1 .taken))
+returns c =
+    scan-found (c .before .before .before .before .before .before .loop .inv) (omega arith) (decided _ _
+    (c .before .before .before .before .before .before .before .count .ensures) (c .before .before .before .next .ensures)
+    (c .before .before .before .before .corner .ensures) (c .before .before .corner2 .ensures) (c .before .same .ensures)
+    (c .if1 .taken))
 
 add-i : tie.Need-add-i Inv-loop μ-loop
 add-i c = omega arith
@@ -61,7 +66,11 @@ loop-less : tie.Need-loop-less Inv-loop μ-loop
 loop-less c = omega arith
 
 loop-again : tie.Need-loop-again Inv-loop μ-loop
-loop-again c = scan-on (c .before .before .before .before .before .before .loop .inv) (omega arith) (decided _ _ (c .before .before .before .before .before .before .before .count .ensures) (c .before .before .before .next .ensures) (c .before .before .before .before .corner .ensures) (c .before .before .corner2 .ensures) (c .before .same .ensures) (c .if1 .left))
+loop-again c =
+    scan-on (c .before .before .before .before .before .before .loop .inv) (omega arith) (decided _ _
+    (c .before .before .before .before .before .before .before .count .ensures) (c .before .before .before .next .ensures)
+    (c .before .before .before .before .corner .ensures) (c .before .before .corner2 .ensures) (c .before .same .ensures)
+    (c .if1 .left))
 
 returns-2 : tie.Need-returns-2 Inv-loop μ-loop
 unfolding repeated

@@ -37,7 +37,8 @@ returns : tie.Need-returns
 returns c =
     let x-fits : SFits w32 (getD (c .before .before .args .s .now) (2 * c .before .before .args .i) (pos 0)) = search sfits-of in
     let y-fits : SFits w32 (getD (c .before .before .args .s .now) (2 * c .before .before .args .i + 1) (pos 0)) = search sfits-of in
-    rw (toZ-ofZ x-fits, toZ-ofZ y-fits) (sym (corner-at (c .before .before .args .s .now) (c .before .before .args .i) (c .before .before .pre)))
+    rw (toZ-ofZ x-fits, toZ-ofZ y-fits)
+    (sym (corner-at (c .before .before .args .s .now) (c .before .before .args .i) (c .before .before .pre)))
 
 pub corner-spec : {M : Type 1} → statement M
 corner-spec =
