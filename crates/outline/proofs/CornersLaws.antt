@@ -3,7 +3,7 @@
 --     next-below                     it is a corner of the outline
 --     next-other, next-next-other    it is another corner, and the one after it is a third
 --     length-corners                 two numbers to a corner
---     corners-fit, corners-fill      all corners lie in the list; in an even list no number is left over
+--     corners-fit                    all corners lie in the list
 --     corner-at                      document 01: corner i is numbers 2 i and 2 i + 1
 --     length-coordinates, coordinate-x, coordinate-y    the same for corners written as numbers
 --     corners-coordinates            corners written as numbers and read again are the same corners
@@ -57,9 +57,6 @@ length-corners (x ∷ (y ∷ s)) = omega (arith, length-corners s)
 
 pub corners-fit : (s : List ℤ) → 2 * length (corners s) ≤ length s
 corners-fit s = omega (arith, length-corners s)
-
-pub corners-fill : (s : List ℤ) → length s % 2 ≡ 0 → 2 * length (corners s) ≡ length s
-corners-fill s even = omega (arith, length-corners s)
 
 twice-suc : (i : ℕ) → 2 * suc i ≡ suc (suc (2 * i))
 twice-suc i = omega arith

@@ -62,12 +62,16 @@ is-not-left-requires c κs =
     let edge-in = in-reach (corners _) _ (c .before .before .before .take-edge .ensures) (pre .0) (pre .1) in
     (edge-in .0, (edge-in .1, rw (c .corner .ensures) (pre .1 _ (omega arith))))
 
+-- the check of this turn is decided by the call's answer
+answered : (c : tie.After-is-not-left Inv-loop μ-loop) {t : Bool} → c .is-not-left .result ≡ t
+    → at (c .before .before .before .before .before .before .args .s .now) (c .before .before .before .before .before .before .args .e) (c .before .before .before .loop .c)
+    ≡ failIf t (NotLeft (c .before .before .before .before .before .before .args .e) (c .before .before .before .loop .c))
+answered c tested =
+    decided _ _ _ (c .before .before .before .before .take-edge .ensures) (c .before .corner .ensures) (c .is-not-left .ensures) tested
+
 returns : tie.Need-returns Inv-loop μ-loop
 unfolding notLeftOf
-returns c =
-    scan-found (c .before .before .before .before .loop .inv) (omega arith)
-    (decided _ _ _ (c .before .before .before .before .before .take-edge .ensures) (c .before .before .corner .ensures)
-    (c .before .is-not-left .ensures) (c .if1 .taken))
+returns c = scan-found (c .before .before .before .before .loop .inv) (omega arith) (answered (c .before) (c .if1 .taken))
 
 add-c : tie.Need-add-c Inv-loop μ-loop
 add-c c = omega arith
@@ -76,10 +80,7 @@ loop-less : tie.Need-loop-less Inv-loop μ-loop
 loop-less c = omega arith
 
 loop-again : tie.Need-loop-again Inv-loop μ-loop
-loop-again c =
-    scan-on (c .before .before .before .before .loop .inv) (omega arith)
-    (decided _ _ _ (c .before .before .before .before .before .take-edge .ensures) (c .before .before .corner .ensures)
-    (c .before .is-not-left .ensures) (c .if1 .left))
+loop-again c = scan-on (c .before .before .before .before .loop .inv) (omega arith) (answered (c .before) (c .if1 .left))
 
 returns-2 : tie.Need-returns-2 Inv-loop μ-loop
 unfolding notLeftOf

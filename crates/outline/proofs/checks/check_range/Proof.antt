@@ -44,11 +44,16 @@ corner-requires c κs = omega arith
 in-range-requires : tie.Need-in-range-requires Inv-loop μ-loop
 in-range-requires c κs = search needs
 
+-- the check of this turn is decided by the call's answer
+answered : (c : tie.After-in-range Inv-loop μ-loop) {t : Bool} → not (c .in-range .result) ≡ t
+    → at (c .before .before .before .before .before .args .s .now) (c .before .before .before .loop .i)
+    ≡ failIf t (OutOfRange (c .before .before .before .loop .i))
+answered c tested =
+    decided _ _ (c .before .corner .ensures) (c .in-range .ensures) tested
+
 returns : tie.Need-returns Inv-loop μ-loop
 unfolding outOfRange
-returns c =
-    scan-found (c .before .before .before .before .loop .inv) (omega arith)
-    (decided _ _ (c .before .before .corner .ensures) (c .before .in-range .ensures) (c .if1 .taken))
+returns c = scan-found (c .before .before .before .before .loop .inv) (omega arith) (answered (c .before) (c .if1 .taken))
 
 add-i : tie.Need-add-i Inv-loop μ-loop
 add-i c = omega arith
@@ -57,9 +62,7 @@ loop-less : tie.Need-loop-less Inv-loop μ-loop
 loop-less c = omega arith
 
 loop-again : tie.Need-loop-again Inv-loop μ-loop
-loop-again c =
-    scan-on (c .before .before .before .before .loop .inv) (omega arith)
-    (decided _ _ (c .before .before .corner .ensures) (c .before .in-range .ensures) (c .if1 .left))
+loop-again c = scan-on (c .before .before .before .before .loop .inv) (omega arith) (answered (c .before) (c .if1 .left))
 
 returns-2 : tie.Need-returns-2 Inv-loop μ-loop
 unfolding outOfRange

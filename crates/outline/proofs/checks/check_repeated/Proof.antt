@@ -51,13 +51,17 @@ corner-requires-2 c κs = rw (c .next .ensures, c .before .before .before .befor
 same-requires : tie.Need-same-requires Inv-loop μ-loop
 same-requires c κs = search needs
 
+-- the check of this turn is decided by the call's answer
+answered : (c : tie.After-same Inv-loop μ-loop) {t : Bool} → c .same .result ≡ t
+    → at (c .before .before .before .before .before .before .before .args .s .now) (c .before .before .before .before .before .loop .i)
+    ≡ failIf t (Repeated (c .before .before .before .before .before .loop .i))
+answered c tested =
+    decided _ _ (c .before .before .before .before .before .before .count .ensures) (c .before .before .next .ensures)
+    (c .before .before .before .corner .ensures) (c .before .corner2 .ensures) (c .same .ensures) tested
+
 returns : tie.Need-returns Inv-loop μ-loop
 unfolding repeated
-returns c =
-    scan-found (c .before .before .before .before .before .before .loop .inv) (omega arith) (decided _ _
-    (c .before .before .before .before .before .before .before .count .ensures) (c .before .before .before .next .ensures)
-    (c .before .before .before .before .corner .ensures) (c .before .before .corner2 .ensures) (c .before .same .ensures)
-    (c .if1 .taken))
+returns c = scan-found (c .before .before .before .before .before .before .loop .inv) (omega arith) (answered (c .before) (c .if1 .taken))
 
 add-i : tie.Need-add-i Inv-loop μ-loop
 add-i c = omega arith
@@ -66,11 +70,7 @@ loop-less : tie.Need-loop-less Inv-loop μ-loop
 loop-less c = omega arith
 
 loop-again : tie.Need-loop-again Inv-loop μ-loop
-loop-again c =
-    scan-on (c .before .before .before .before .before .before .loop .inv) (omega arith) (decided _ _
-    (c .before .before .before .before .before .before .before .count .ensures) (c .before .before .before .next .ensures)
-    (c .before .before .before .before .corner .ensures) (c .before .before .corner2 .ensures) (c .before .same .ensures)
-    (c .if1 .left))
+loop-again c = scan-on (c .before .before .before .before .before .before .loop .inv) (omega arith) (answered (c .before) (c .if1 .left))
 
 returns-2 : tie.Need-returns-2 Inv-loop μ-loop
 unfolding repeated
