@@ -53,13 +53,12 @@ ifPassed (Failed f) before after = before
 abbrev pub listAfter : List ℤ → ℕ → List ℤ → List ℤ
 listAfter s k out = ifPassed (removal s k (length out)) out (coordinates (without k (corners s)))
 
-pub data Stands (s : List ℤ) (k room : ℕ) : Fault → Type 0 where
-  unread : {f : Fault} → check s ≡ Failed f → Stands s k room f
-  unknown : check s ≡ Passed → length (corners s) ≤ k → Stands s k room NoSuchCorner
-  just-three : check s ≡ Passed → k < length (corners s) → length (corners s) ≡ fewest → Stands s k room TooFewCorners
-  wrong-length :
-      check s ≡ Passed → k < length (corners s) → length (corners s) ≢ fewest
-      → room ≢ length (coordinates (without k (corners s))) → Stands s k room WrongLength
+abbrev pub StandsAt : List ℤ → ℕ → ℕ → ℕ → Fault → Type 0
+StandsAt s k room zero f = check s ≡ Failed f
+StandsAt s k room (suc zero) f = (NoSuchCorner ≡ f) × (length (corners s) ≤ k)
+StandsAt s k room (suc (suc zero)) f = (TooFewCorners ≡ f) × (length (corners s) ≡ fewest)
+StandsAt s k room (suc (suc (suc zero))) f = (WrongLength ≡ f) × (room ≢ length (coordinates (without k (corners s))))
+StandsAt s k room (suc (suc (suc (suc j)))) f = ⊥
 
 -- the list has corner k, and what remains fills the list to write
 pub record Removable (s : List ℤ) (k : ℕ) (out : List ℤ) : Type 0 where

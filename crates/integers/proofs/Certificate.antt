@@ -197,12 +197,6 @@ module _ (env : List ℤ) where
 
 -- ---- examples
 
--- Cauchy and Schwarz in the plane
-schwarz : (a b c d : ℤ) → ((a *ℤ c +ℤ b *ℤ d) *ℤ (a *ℤ c +ℤ b *ℤ d)) ≤ℤ ((a *ℤ a +ℤ b *ℤ b) *ℤ (c *ℤ c +ℤ d *ℤ d))
-schwarz a b c d =
-    let x = var 0 in let y = var 1 in let u = var 2 in let v = var 3 in
-    prove (a ∷ b ∷ c ∷ d ∷ []) [] ((x ⊗ u ⊕ y ⊗ v) ⊗ (x ⊗ u ⊕ y ⊗ v) ≼ (x ⊗ x ⊕ y ⊗ y) ⊗ (u ⊗ u ⊕ v ⊗ v)) (hyp 0 ⊞ sq (x ⊗ v ⊖ y ⊗ u)) tt
-
 -- whole numbers: none lies between a and a + 1
 none-between : (a b : ℤ) → a <ℤ b → b <ℤ (a +ℤ pos 1) → ⊥
 none-between a b = refute (a ∷ b ∷ []) (var 0 ≺ var 1 ∷ var 1 ≺ var 0 ⊕ lit (pos 1) ∷ []) (tight 0 ⊞ hyp 1) tt

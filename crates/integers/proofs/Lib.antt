@@ -5,7 +5,5 @@ pub mod Order
 pub mod Polynomial
 pub mod Certificate
 pub mod Reflect
-pub mod Equal
-pub mod Tests
 pub mod Machine
 pub mod FractionLaws

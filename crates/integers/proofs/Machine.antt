@@ -8,19 +8,23 @@
 --     plus, minus, times      the operations
 --     fits                    it ends: the result fits its type. That it is z is `stored w r tt .exact`
 --     size-fits               a number that is not negative is cast to an unsigned type
+--     equal-bits              two signed numbers are compared by `==`
 -- Each test `T (ltb bound (2 ^ ..))` computes, and is answered by `tt`.
-use mathlib.Core.Path.{_≡_, refl, _∙_}
+use mathlib.Core.Path.{_≡_, refl, sym, ap, _∙_}
+use mathlib.Core.Logic.{Iff·trans}
 use mathlib.Core.Bool.{Bool, true, false, cond}
 use Prim.Native.Nat.{ℕ, zero, suc, _+_, _*_, _-_, _^_, _≤_}
 use native.Mathlib.Nat.{le-refl, le-trans, mul-le-mul, lt-of-le-of-lt}
 use native.Mathlib.Omega.{arith}
-use lib.Dec.{T, ltb, ltb→lt}
+use lib.Dec.{T, eqb, ltb, ltb→lt}
 use lib.IntN.{ℤ, pos, negsuc, negℤ, natAbs, subℕ, _+ℤ_, _-ℤ_, _*ℤ_}
 use lib.Signed.{mag, nonNeg, natAbs-le}
 use mir.Syntax.{Width, w32, w64}
 use mir.Val.{Fits, SFits, bits, hbits, toZ, ofZ}
 use mir.ValLaws.{toZ-ofZ}
+use Rattle.integers.specs.Equal.{eqZ}
 use Rattle.integers.specs.Size.{AtMost}
+use Rattle.integers.proofs.Reflect.{test-eqb, test-eqZ, test-same}
 
 -- sizes
 
@@ -109,3 +113,10 @@ stored {e} w r t = record { bound = r .bound; exact = toZ-ofZ w e (fits r t) ∙
 pub size-fits : {w : Width} {b : ℕ} {z e : ℤ} → Exact b z e → T (nonNeg z) → T (ltb b (2 ^ bits w)) → T (nonNeg e) × Fits w (natAbs e)
 size-fits {w} {b} r h t =
     rw (r .exact) (h, record { fits = lt-of-le-of-lt (r .bound .size) (ltb→lt b (2 ^ bits w) t) })
+
+-- what `==` on two signed numbers answers: it compares their bits
+pub equal-bits : (w : Width) (a b : ℤ) → SFits w a → SFits w b → eqb (ofZ w a) (ofZ w b) ≡ eqZ a b
+equal-bits w a b fa fb =
+    test-same (eqb (ofZ w a) (ofZ w b)) (eqZ a b)
+    (Iff·trans (test-eqb (ofZ w a) (ofZ w b)) (λ bits. sym (toZ-ofZ w a fa) ∙ ap (toZ w) bits ∙ toZ-ofZ w b fb, ap (ofZ w)))
+    (test-eqZ a b)

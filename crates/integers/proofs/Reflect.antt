@@ -1,17 +1,20 @@
 -- A Boolean test and its meaning: what `(b ≡ true) ↔ P` gives of the other tests made of b.
 --     test-false     the test fails exactly where P does not hold
 --     test-not       the negated test
---     test-and       two tests
 --     test-stable    P holds where it cannot fail to
---     test-eqb, test-ltb, test-leb, test-leZ    the tests of numbers
+--     test-same      two tests with one meaning are equal
+--     test-and       two tests
+--     test-eqb, test-ltb, test-leb, test-leZ, test-eqZ    the tests of numbers
+--     and-then, and-stop    two tests made one after the other, as the code's `a && b` makes them
 use Prim.Native.Nat.{ℕ, _<_, _≤_}
-use mathlib.Core.Path.{_≡_, refl, ap}
+use mathlib.Core.Path.{_≡_, refl, sym, ap, _∙_}
 use mathlib.Core.Logic.{_↔_, Iff·trans}
 use mathlib.Core.Bool.{Bool, true, false, not, _&&_, true≢false, false≢true}
 use borrow.Author.Tests.{not-true, eqb-true, eq-eqb, ltb-true, lt-ltb, leb-true, le-leb}
 use lib.Dec.{eqb, ltb, leb}
-use lib.IntN.{ℤ}
+use lib.IntN.{ℤ, pos, negsuc}
 use lib.Signed.{leZ, _≤ℤ_}
+use Rattle.integers.specs.Equal.{eqZ}
 use Rattle.integers.proofs.Order.{leZ-true, ≤ℤ-leZ}
 
 module _ {P : Type 0} where
@@ -25,6 +28,10 @@ module _ {P : Type 0} where
   pub test-stable : (b : Bool) → ((b ≡ true) ↔ P) → ¬ ¬ P → P
   test-stable true means twice = means .0 refl
   test-stable false means twice = absurd (twice (λ p. false≢true (means .1 p)))
+
+  pub test-same : (a b : Bool) → ((a ≡ true) ↔ P) → ((b ≡ true) ↔ P) → a ≡ b
+  test-same true b p q = sym (q .1 (p .0 refl))
+  test-same false b p q = sym (test-false b q .1 (test-false false p .0 refl))
 
 pub test-and : {P Q : Type 0} (a b : Bool) → ((a ≡ true) ↔ P) → ((b ≡ true) ↔ Q) → ((a && b ≡ true) ↔ (P × Q))
 test-and true b p q = (λ e. (p .0 refl, q .0 e), λ both. q .1 (both .1))
@@ -41,3 +48,16 @@ test-leb a b = (leb-true a b, le-leb a b)
 
 pub test-leZ : (a b : ℤ) → (leZ a b ≡ true) ↔ (a ≤ℤ b)
 test-leZ a b = (leZ-true, ≤ℤ-leZ)
+
+pub test-eqZ : (a b : ℤ) → (eqZ a b ≡ true) ↔ (a ≡ b)
+test-eqZ (pos a) (pos b) = (λ e. ap pos (eqb-true a b e), λ e. eq-eqb a b (cc))
+test-eqZ (pos a) (negsuc b) = (λ e. absurd (false≢true e), λ e. cc)
+test-eqZ (negsuc a) (pos b) = (λ e. absurd (false≢true e), λ e. cc)
+test-eqZ (negsuc a) (negsuc b) = (λ e. ap negsuc (eqb-true a b e), λ e. eq-eqb a b (cc))
+
+module _ {a r : Bool} (b : Bool) (first : r ≡ a) where
+  pub and-then : {s : Bool} → s ≡ b → r ≡ true → s ≡ (a && b)
+  and-then second holds = second ∙ ap (λ (t : Bool). t && b) (sym holds ∙ first)
+
+  pub and-stop : r ≡ false → r ≡ (a && b)
+  and-stop fails = fails ∙ ap (λ (t : Bool). t && b) (sym fails ∙ first)

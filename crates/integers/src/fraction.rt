@@ -1,6 +1,6 @@
 // Exact fractions of natural numbers, and their order.
 ghost use mathlib.Core.Path.{_≡_};
-ghost use Prim.Native.Nat.{_*_, _/_, _%_};
+ghost use Prim.Native.Nat.{_*_};
 ghost use Rattle.integers.specs.Fraction.{order, Bounded};
 
 // An upper number over a lower number. It is never reduced.
@@ -28,14 +28,6 @@ fn compare_numbers(x: u64, y: u64) -> Order
     }
 }
 
-// The order of what two fractions leave beside their whole parts. A remainder is below its lower number, so the products fit.
-fn compare_remainders(a: Fraction, b: Fraction) -> Order
-    requires { ⌜ Bounded a × Bounded b ⌝ }
-    ensures { λ r. ⌜ r ≡ order (a .upper % a .lower * b .lower) (b .upper % b .lower * a .lower) ⌝ }
-{
-    compare_numbers(a.upper % a.lower * b.lower, b.upper % b.lower * a.lower)
-}
-
 // The order of two fractions: exactly that of their cross products, with nothing lost to 64 bits. Whole parts decide, and where
 // these are equal the remainders do.
 pub fn compare(a: Fraction, b: Fraction) -> Order
@@ -44,7 +36,7 @@ pub fn compare(a: Fraction, b: Fraction) -> Order
 {
     match compare_numbers(a.upper / a.lower, b.upper / b.lower) {
         Order::Less => Order::Less,
-        Order::Equal => compare_remainders(a, b),
+        Order::Equal => compare_numbers(a.upper % a.lower * b.lower, b.upper % b.lower * a.lower),
         Order::Greater => Order::Greater,
     }
 }

@@ -23,7 +23,8 @@ use Rattle.outline.specs.Convex.{Accepted}
 use Rattle.outline.specs.Reading.{check}
 use Rattle.outline.specs.Applies.{Lowest, Applies, rank}
 use Rattle.outline.proofs.CornersLaws.{next-below, next-other, next-next-other}
-use Rattle.outline.proofs.First.{passed≢failed, FailsWhere, each-passed, each-none, each-lowest}
+use Rattle.outline.proofs.First.{FailsWhere, each-none, each-lowest}
+use Rattle.outline.proofs.ChecksLaws.{passed≢failed, each-passed}
 use Rattle.outline.proofs.Stages.{stages, stage, check-stages, stage-failed, stage-fails, outOfRange-passed, notLeft-passed}
 
 -- a fault with this rank applies

@@ -18,68 +18,14 @@ use Rattle.outline.specs.declared.Fault.{Fault}
 use Rattle.outline.specs.declared.Check.the-variants.{Passed, Failed}
 use Rattle.outline.specs.Checks.{_orElse_, each, failIf}
 use Rattle.outline.specs.Applies.{Lowest}
-use Rattle.outline.proofs.ChecksLaws.{each-goes-on, each-stops, each-ends}
+use Rattle.outline.proofs.ChecksLaws.{passed≢failed, AllPass, First, each-passed, each-failed}
 
-pub passed≢failed : {c : Check} {f : Fault} → c ≡ Passed → c ≡ Failed f → ⊥
-passed≢failed p q = let z : _≡_ {A = ℕ} 0 1 = cc in omega arith
-
-not-failed : (c : Check) → ((f : Fault) → ¬ (c ≡ Failed f)) → c ≡ Passed
+pub not-failed : (c : Check) → ((f : Fault) → ¬ (c ≡ Failed f)) → c ≡ Passed
 not-failed Passed none = refl
 not-failed (Failed f) none = absurd (none f refl)
 
 failed-inj : {c : Check} {f g : Fault} → c ≡ Failed f → c ≡ Failed g → f ≡ g
 failed-inj p q = cc
-
-abbrev pub AllPass : (ℕ → Check) → ℕ → Type 0
-AllPass check n = (i : ℕ) → i < n → check i ≡ Passed
-
-pub record First (check : ℕ → Check) (n : ℕ) (f : Fault) : Type 0 where
-  pub place : ℕ
-  pub below : place < n
-  pub fails : check place ≡ Failed f
-  pub earlier : AllPass check place
-
-module _ (check : ℕ → Check) where
-  -- checks that pass leave it to the rest
-  each-reaches : (n i : ℕ) → i ≤ n → AllPass check i → each check n 0 ≡ each check (n - i) i
-  each-reaches n zero within pass = rw sub-zero
-  each-reaches n (suc i) within pass =
-      each-reaches n i (omega arith) (λ j lower. pass j (omega arith)) ∙ each-goes-on check n i within (pass i (omega arith)) ∙ rw add-one
-
-  all-passed : (n : ℕ) → AllPass check n → each check n 0 ≡ Passed
-  all-passed n pass = each-reaches n n (omega arith) pass ∙ each-ends check n n (omega arith)
-
-  first-failed : {n : ℕ} {f : Fault} → First check n f → each check n 0 ≡ Failed f
-  first-failed {n} {f} first =
-      each-reaches n (first .place) (omega arith) (first .earlier) ∙ each-stops check n (first .place) f (first .below) (first .fails)
-
-  -- either all checks pass, or there is a first that fails
-  abbrev Scan : ℕ → Type 0
-  Scan n = AllPass check n ⊎ ((f : Fault) × First check n f)
-
-  one-more : (n : ℕ) → AllPass check n → check n ≡ Passed → AllPass check (suc n)
-  one-more n pass passes i below =
-      ⊎-elim (λ e. rw e passes) (pass i) (eq-or-lt-of-le (le-of-suc-le-suc below))
-
-  scan : (n : ℕ) → Scan n
-  scan zero = inl (λ i below. absurd (omega arith))
-  scan (suc n) = go (scan n) (check n) refl
-    where
-      go : Scan n → (c : Check) → check n ≡ c → Scan (suc n)
-      go (inl pass) Passed e = inl (one-more n pass e)
-      go (inl pass) (Failed f) e = inr (f, record { place = n; below = omega arith; fails = e; earlier = pass })
-      go (inr (f, first)) c e =
-          inr (f, record { place = first .place; below = omega arith; fails = first .fails; earlier = first .earlier })
-
-  pub each-passed : (n : ℕ) → (each check n 0 ≡ Passed) ↔ AllPass check n
-  each-passed n = (λ e. ⊎-elim (λ pass. pass) (λ first. absurd (passed≢failed e (first-failed (first .1)))) (scan n), all-passed n)
-
-  pub each-failed : (n : ℕ) (f : Fault) → (each check n 0 ≡ Failed f) ↔ First check n f
-  each-failed n f = (
-    λ e. ⊎-elim (λ pass. absurd (passed≢failed (all-passed n pass) e))
-        (λ first. subst (First check n) (failed-inj (first-failed (first .1)) e) (first .1)) (scan n),
-    first-failed,
-  )
 
 -- a check that fails exactly where something holds
 pub record FailsWhere (P : ℕ → Type 0) (check : ℕ → Check) : Type 0 where
@@ -90,11 +36,11 @@ module _ {P : ℕ → Type 0} {check : ℕ → Check} (decides : FailsWhere P ch
   passes : (i : ℕ) → ¬ P i → check i ≡ Passed
   passes i none = not-failed (check i) (λ f fails. none (decides .holds i f fails))
 
-  pub each-none : (each check n 0 ≡ Passed) ↔ ((i : ℕ) → i < n → ¬ P i)
+  pub each-none : (each check n ≡ Passed) ↔ ((i : ℕ) → i < n → ¬ P i)
   each-none =
       Iff·trans (each-passed check n) (λ pass i below. decides .not-holds i (pass i below), λ none i below. passes i (none i below))
 
-  pub each-lowest : (f : Fault) → (each check n 0 ≡ Failed f) ↔ ((i : ℕ) × (check i ≡ Failed f) × Lowest P n i)
+  pub each-lowest : (f : Fault) → (each check n ≡ Failed f) ↔ ((i : ℕ) × (check i ≡ Failed f) × Lowest P n i)
   each-lowest f = Iff·trans (each-failed check n f) (lowest, first)
     where
       lowest : First check n f → (i : ℕ) × (check i ≡ Failed f) × Lowest P n i
@@ -111,14 +57,6 @@ module _ {P : ℕ → Type 0} {check : ℕ → Check} (decides : FailsWhere P ch
 
       first : (i : ℕ) × (check i ≡ Failed f) × Lowest P n i → First check n f
       first (i, fails, low) = record { place = i; below = low .below; fails = fails; earlier = λ j lower. passes j (low .lowest j lower) }
-
-pub orElse-passed : (c d : Check) → (c orElse d ≡ Passed) ↔ ((c ≡ Passed) × (d ≡ Passed))
-orElse-passed Passed d = (λ e. (refl, e), λ both. both .1)
-orElse-passed (Failed f) d = (λ e. absurd (passed≢failed e refl), λ both. both .0)
-
-pub orElse-failed : (c d : Check) (f : Fault) → c orElse d ≡ Failed f → (c ≡ Failed f) ⊎ ((c ≡ Passed) × (d ≡ Failed f))
-orElse-failed Passed d f e = inr (refl, e)
-orElse-failed (Failed g) d f e = inl e
 
 -- ---- checks that tests make
 
@@ -141,7 +79,7 @@ module _ {P : ℕ → Type 0} (t : ℕ → Bool) (means : (i : ℕ) → (t i ≡
     not-holds = λ i. failIf-passed (t i) (means i) (fault i) .0;
   }
 
-  pub test-lowest : (n : ℕ) (f : Fault) → (each (λ i. failIf (t i) (fault i)) n 0 ≡ Failed f) ↔ ((i : ℕ) × (fault i ≡ f) × Lowest P n i)
+  pub test-lowest : (n : ℕ) (f : Fault) → (each (λ i. failIf (t i) (fault i)) n ≡ Failed f) ↔ ((i : ℕ) × (fault i ≡ f) × Lowest P n i)
   test-lowest n f = Iff·trans (each-lowest test-fails n f) (there, back)
     where
       there : (i : ℕ) × (failIf (t i) (fault i) ≡ Failed f) × Lowest P n i → (i : ℕ) × (fault i ≡ f) × Lowest P n i
@@ -149,3 +87,21 @@ module _ {P : ℕ → Type 0} (t : ℕ → Bool) (means : (i : ℕ) → (t i ≡
 
       back : (i : ℕ) × (fault i ≡ f) × Lowest P n i → (i : ℕ) × (failIf (t i) (fault i) ≡ Failed f) × Lowest P n i
       back (i, e, low) = (i, failIf-failed (t i) (means i) (fault i) f .1 (e, low .here), low)
+
+-- ---- checks of which each finds what is said of its place
+
+module _ {At : ℕ → Fault → Type 0} {check : ℕ → Check} (finds : (i : ℕ) (f : Fault) → (check i ≡ Failed f) ↔ At i f) (n : ℕ) where
+  none-at : (i : ℕ) → (check i ≡ Passed) ↔ ((f : Fault) → ¬ At i f)
+  none-at i = (
+    λ passes f at. passed≢failed passes (finds i f .1 at),
+    λ none. not-failed (check i) (λ f fails. none f (finds i f .0 fails)),
+  )
+
+  pub order-passed : (each check n ≡ Passed) ↔ ((i : ℕ) → i < n → (f : Fault) → ¬ At i f)
+  order-passed = Iff·trans (each-passed check n) (λ pass i below. none-at i .0 (pass i below), λ none i below. none-at i .1 (none i below))
+
+  pub order-failed : (f : Fault) → (each check n ≡ Failed f) ↔ ((i : ℕ) × (i < n) × At i f × ((j : ℕ) → j < i → (g : Fault) → ¬ At j g))
+  order-failed f = Iff·trans (each-failed check n f) (
+    λ first. (first .place, first .below, finds (first .place) f .0 (first .fails), λ j lower. none-at j .0 (first .earlier j lower)),
+    λ (i, below, at, none). record { place = i; below = below; fails = finds i f .1 at; earlier = λ j lower. none-at j .1 (none j lower) },
+  )

@@ -5,7 +5,7 @@
 --                               numbers 2 i and 2 i + 1
 use Prim.Native.Nat.{ℕ, _+_, _*_, _-_, _/_, _<_, _≤_}
 use mathlib.Core.Path.{_≡_, ap, _∙_}
-use mathlib.Core.List.{List, _++_}
+use mathlib.Core.List.{List, [], _++_}
 use native.Mathlib.Omega.{arith}
 use lib.IntN.{ℤ, pos}
 use lib.ListN.{length, getD, replicate, length-append, length-replicate, getD-replicate, List·getD-append}
@@ -16,7 +16,8 @@ use Rattle.outline.specs.declared.Check.the-variants.{Passed}
 use Rattle.outline.specs.declared.Outline.{Outline}
 use Rattle.outline.specs.declared.RefusedSide.{RefusedSide}
 use Rattle.outline.specs.Corners.{corners, corner, origin, most, held}
-use Rattle.outline.specs.Reading.{check, outlineRead, reading}
+use Rattle.outline.specs.Reading.{check, reading}
+use Rattle.outline.specs.Checks.{ifPassed}
 use Rattle.outline.proofs.CornersLaws.{length-corners, corner-at}
 
 module _ (cs : List Corner) where
@@ -42,7 +43,7 @@ module _ (cs : List Corner) where
 
 module _ (side : RefusedSide) (s : List ℤ) (taken : check s ≡ Passed) where
   holds : reading side s .outline ≡ held (corners s)
-  holds = ap (λ (c : Check). outlineRead c (corners s)) taken
+  holds = ap (λ (c : Check). ifPassed c (held (corners s)) (held [])) taken
 
   pub reading-count : reading side s .outline .count ≡ length s / 2
   unfolding held

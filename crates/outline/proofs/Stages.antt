@@ -27,7 +27,8 @@ use Rattle.outline.specs.Convex.{StrictlyConvex}
 use Rattle.outline.specs.Checks.{_orElse_, each}
 use Rattle.outline.specs.Reading.{oddLength, tooFew, tooMany, outOfRange, repeated, isNotLeft, notLeftOf, notLeft, check}
 use Rattle.outline.specs.Applies.{Lowest, NotLeftOf, Applies, rank}
-use Rattle.outline.proofs.First.{passed≢failed, FailsWhere, each-none, each-lowest, failIf-failed, test-fails, test-lowest}
+use Rattle.outline.proofs.First.{FailsWhere, each-none, each-lowest, failIf-failed, test-fails, test-lowest}
+use Rattle.outline.proofs.ChecksLaws.{passed≢failed}
 
 abbrev pub stages : List ℤ → List Check
 stages s =
@@ -36,13 +37,9 @@ stages s =
 abbrev pub stage : List ℤ → ℕ → Check
 stage s k = getD (stages s) k Passed
 
-passed-after : (c : Check) → c orElse Passed ≡ c
-passed-after Passed = refl
-passed-after (Failed f) = refl
-
-pub check-stages : (s : List ℤ) → check s ≡ each (stage s) 6 0
+pub check-stages : (s : List ℤ) → check s ≡ each (stage s) 6
 unfolding check each
-check-stages s = rw (passed-after (notLeft (corners s)))
+check-stages s = refl
 
 -- ---- the tests of corners, their meanings, and what the checks made of them find
 other-true : (a b : ℕ) → (not (eqb a b) ≡ true) ↔ (a ≢ b)

@@ -3,7 +3,6 @@ use crate::MOST;
 use crate::Outline;
 use plane::Corner;
 ghost use mathlib.Core.Path.{_≡_};
-ghost use mathlib.Core.List.{[]};
 ghost use Prim.Native.Nat.{_<_, _≤_};
 ghost use lib.ListN.{length};
 ghost use Rattle.outline.specs.Corners.{corners, corner, next, held, most};
@@ -32,16 +31,6 @@ pub fn next(n: usize, i: usize) -> usize
     ensures { λ r. ⌜ r ≡ next n i ⌝ }
 {
     if i + 1 < n { i + 1 } else { 0 }
-}
-
-// The outline without corners.
-pub fn none() -> Outline
-    ensures { λ r. ⌜ r ≡ held [] ⌝ }
-{
-    Outline {
-        count: 0,
-        corners: [Corner { x: 0, y: 0 }; MOST],
-    }
 }
 
 // The outline with the corners of a list.

@@ -80,7 +80,7 @@ pub fn read(s: &[i32], whose: RefusedSide) -> Reading
         },
         Check::Failed(f) => Reading {
             verdict: Verdict::Refused(refusals::refusal(whose, f)),
-            outline: corners::none(),
+            outline: corners::hold(&[]),
         },
     }
 }

@@ -17,7 +17,7 @@ use mathlib.Core.List.{List, [], _∷_}
 use lib.IntN.{ℤ, pos, negℤ, _+ℤ_, _*ℤ_}
 use lib.Signed.{_≤ℤ_}
 use Rattle.integers.proofs.Polynomial.{Expr, var, lit, ⊝_, _⊕_, _⊖_, _⊗_, solve}
-use Rattle.integers.proofs.Certificate.{_≼_, _≗_, hyp, sq, eqn, _⊞_, prove}
+use Rattle.integers.proofs.Certificate.{_≼_, hyp, sq, _⊞_, prove}
 use Rattle.plane.specs.Vector.{_⇀_, cross, dot, side, coordinates}
 use Rattle.plane.specs.declared.Corner.{Corner}
 use Rattle.plane.specs.declared.Vector.{Vector}
@@ -104,9 +104,8 @@ lagrange a b =
     let a' = vec 0 in let b' = vec 2 in
     solve (components (a ∷ b ∷ [])) (crossE a' b' ⊗ crossE a' b' ⊕ dotE a' b' ⊗ dotE a' b') (dotE a' a' ⊗ dotE b' b') tt
 
--- with the four products as the variables: a square is not negative
 pub cauchy-schwarz : (a b : Vector) → (dot a b *ℤ dot a b) ≤ℤ (dot a a *ℤ dot b b)
+unfolding dot
 cauchy-schwarz a b =
-    prove (cross a b ∷ dot a b ∷ dot a a ∷ dot b b ∷ []) (var 0 ⊗ var 0 ⊕ var 1 ⊗ var 1 ≗ var 2 ⊗ var 3 ∷ [])
-    (var 1 ⊗ var 1 ≼ var 2 ⊗ var 3)
-    (hyp 0 ⊞ sq (var 0) ⊞ eqn 1 (lit (pos 1))) tt (lagrange a b)
+    let a' = vec 0 in let b' = vec 2 in
+    prove (components (a ∷ b ∷ [])) [] (dotE a' b' ⊗ dotE a' b' ≼ dotE a' a' ⊗ dotE b' b') (hyp 0 ⊞ sq (crossE a' b')) tt

@@ -1,10 +1,10 @@
 -- The functions of `plane` compute exactly in 64 bits. For an expression of the code, as a goal shows it, `-fits` says that
--- its result fits an i64, and `-exact` that the result, read back, is the number that a contract names.
+-- its result fits an i64, `-exact` that the result, read back, is the number that a contract names, and `-is` both with a bound.
 --     cast-fits                             a coordinate, cast to i64
 --     difference-fits, difference-exact     of two coordinates
 --     product-fits                          of two components within reach
 --     minus-fits, plus-fits                 of two such products
---     cross-exact, dot-exact                the products of two vectors within reach
+--     cross-is, dot-is                      the products of two vectors within reach
 -- Every hypothesis shows its numbers, so that `search` finds it in what a need is handed.
 use mathlib.Core.Path.{_≡_}
 use Prim.Native.Nat.{ℕ, _+_, _*_, _^_}
@@ -49,7 +49,7 @@ product : {y z : ℤ} → AtMost reach y → AtMost reach z → Exact (reach * r
 product h k = stored w64 (product-is h k) tt
 
 -- the bound of a sum and of a difference of two products
-abbrev most : ℕ
+abbrev pub most : ℕ
 most = reach * reach + reach * reach
 
 module _ {u v y z : ℤ} (hu : AtMost reach u) (hv : AtMost reach v) (hy : AtMost reach y) (hz : AtMost reach z) where
@@ -66,10 +66,10 @@ module _ {u v y z : ℤ} (hu : AtMost reach u) (hv : AtMost reach v) (hy : AtMos
   plus-fits = fits plus-is tt
 
 module _ {a b : Vector} (h : Span reach a) (k : Span reach b) where
-  pub cross-exact : i64 (product64 (a .x) (b .y) -ℤ product64 (a .y) (b .x)) ≡ cross a b
+  pub cross-is : Exact most (cross a b) (product64 (a .x) (b .y) -ℤ product64 (a .y) (b .x))
   unfolding cross
-  cross-exact = stored w64 (minus-is (h .x-size) (k .y-size) (h .y-size) (k .x-size)) tt .exact
+  cross-is = minus-is (h .x-size) (k .y-size) (h .y-size) (k .x-size)
 
-  pub dot-exact : i64 (product64 (a .x) (b .x) +ℤ product64 (a .y) (b .y)) ≡ dot a b
+  pub dot-is : Exact most (dot a b) (product64 (a .x) (b .x) +ℤ product64 (a .y) (b .y))
   unfolding dot
-  dot-exact = stored w64 (plus-is (h .x-size) (k .x-size) (h .y-size) (k .y-size)) tt .exact
+  dot-is = plus-is (h .x-size) (k .x-size) (h .y-size) (k .y-size)

@@ -1,17 +1,16 @@
 -- How large differences and products are.
 --     span-⇀, span-difference     the vector between two points in range is within reach
---     atMost-cross, atMost-dot    the products of two vectors, from the sizes of their components
 --     atMost-side                 document 01: a side number of points in range is at most 2,048,000,000 in size
 --     square-fits                 so its square fits 64 bits
 use mathlib.Core.Path.{_≡_}
-use Prim.Native.Nat.{ℕ, _+_, _*_}
 use lib.IntN.{_*ℤ_}
 use mir.Syntax.{w64}
 use mir.Val.{SFits}
 use Rattle.integers.specs.Size.{AtMost}
-use Rattle.integers.proofs.Machine.{atMost-+, atMost--, atMost-*, value, times, fits}
+use Rattle.integers.proofs.Machine.{atMost--, value, times, fits}
+use Rattle.plane.proofs.Arithmetic.{cross-is}
 use Rattle.plane.specs.Range.{InRange, Span, reach}
-use Rattle.plane.specs.Vector.{_⇀_, cross, dot, side}
+use Rattle.plane.specs.Vector.{_⇀_, side}
 use Rattle.plane.specs.declared.Corner.{Corner}
 use Rattle.plane.specs.declared.Vector.{Vector}
 
@@ -23,16 +22,8 @@ span-⇀ h k = record { x-size = atMost-- (k .x-size) (h .x-size); y-size = atMo
 pub span-difference : {p q : Corner} {v : Vector} → v ≡ p ⇀ q → InRange p → InRange q → Span reach v
 span-difference e h k = rw e (span-⇀ h k)
 
-pub atMost-cross : {a b : ℕ} {u v : Vector} → Span a u → Span b v → AtMost (a * b + a * b) (cross u v)
-unfolding cross
-atMost-cross h k = atMost-- (atMost-* (h .x-size) (k .y-size)) (atMost-* (h .y-size) (k .x-size))
-
-pub atMost-dot : {a b : ℕ} {u v : Vector} → Span a u → Span b v → AtMost (a * b + a * b) (dot u v)
-unfolding dot
-atMost-dot h k = atMost-+ (atMost-* (h .x-size) (k .x-size)) (atMost-* (h .y-size) (k .y-size))
-
 pub atMost-side : {p q v : Corner} → InRange p → InRange q → InRange v → AtMost 2048000000 (side p q v)
-atMost-side h k l = atMost-cross (span-⇀ h k) (span-⇀ h l)
+atMost-side h k l = cross-is (span-⇀ h k) (span-⇀ h l) .bound
 
 pub square-fits : {p q v : Corner} → InRange p → InRange q → InRange v → SFits w64 (side p q v *ℤ side p q v)
 square-fits h k l = let z = value (atMost-side h k l) in fits (times z z) tt

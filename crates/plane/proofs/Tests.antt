@@ -7,8 +7,7 @@ use mathlib.Core.Bool.{true}
 use lib.IntN.{ℤ, natAbs}
 use Rattle.integers.specs.Equal.{eqZ}
 use Rattle.integers.specs.Size.{AtMost}
-use Rattle.integers.proofs.Reflect.{test-and, test-leb}
-use Rattle.integers.proofs.Equal.{eqZ-true}
+use Rattle.integers.proofs.Reflect.{test-and, test-leb, test-eqZ}
 use Rattle.plane.specs.declared.Corner.{Corner}
 use Rattle.plane.specs.Range.{InRange, isCoordinate, inRange, limit}
 use Rattle.plane.specs.Vector.{same}
@@ -25,5 +24,5 @@ inRange-true p =
 pub same-true : (p q : Corner) → (same p q ≡ true) ↔ (p ≡ q)
 unfolding same
 same-true p q =
-    let both = test-and (eqZ (p .x) (q .x)) (eqZ (p .y) (q .y)) (eqZ-true (p .x) (q .x)) (eqZ-true (p .y) (q .y)) in
+    let both = test-and (eqZ (p .x) (q .x)) (eqZ (p .y) (q .y)) (test-eqZ (p .x) (q .x)) (test-eqZ (p .y) (q .y)) in
     (λ e. λ i. record { x = both .0 e .0 i; y = both .0 e .1 i }, λ e. both .1 (ap (λ (r : Corner). r .x) e, ap (λ (r : Corner). r .y) e))

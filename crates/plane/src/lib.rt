@@ -73,11 +73,7 @@ fn is_coordinate(z: i32) -> bool
 pub fn in_range(p: Corner) -> bool
     ensures { λ r. ⌜ r ≡ inRange p ⌝ }
 {
-    if is_coordinate(p.x) {
-        is_coordinate(p.y)
-    } else {
-        false
-    }
+    is_coordinate(p.x) && is_coordinate(p.y)
 }
 
 fn equal(a: i32, b: i32) -> bool
@@ -90,9 +86,5 @@ fn equal(a: i32, b: i32) -> bool
 pub fn same(p: Corner, q: Corner) -> bool
     ensures { λ r. ⌜ r ≡ same p q ⌝ }
 {
-    if equal(p.x, q.x) {
-        equal(p.y, q.y)
-    } else {
-        false
-    }
+    equal(p.x, q.x) && equal(p.y, q.y)
 }

@@ -1,6 +1,7 @@
 -- `outline::read` goes by what the checks find, as the definition does.
 use borrow.Author.Needs.{needs}
-use mathlib.Core.List.{List}
+use native.Mathlib.Omega.{arith}
+use mathlib.Core.List.{List, []}
 use mathlib.Core.Path.{_≡_, refl, sym, ap, _∙_}
 use lib.IntN.{ℤ}
 use Rattle.outline.specs.declared.Check.{Check}
@@ -9,18 +10,19 @@ use Rattle.outline.specs.declared.Verdict.the-variants.{Refused}
 use Rattle.outline.specs.declared.Outline.{Outline}
 use Rattle.outline.specs.declared.Reading.{Reading}
 use Rattle.outline.specs.declared.RefusedSide.{RefusedSide}
-use Rattle.outline.specs.Corners.{corners}
-use Rattle.outline.specs.Reading.{check, outlineRead, reading}
+use Rattle.outline.specs.Corners.{corners, held}
+use Rattle.outline.specs.Reading.{check, reading}
+use Rattle.outline.specs.Checks.{ifPassed}
 use Rattle.outline.specs.Refusal.{verdict}
 use Rattle.outline.proofs.Acceptance.{accepted}
 use Rattle.outline.proofs.read.Statement.{statement}
 use Rattle.outline.proofs.read.Tie as tie
 
 reading-is : (side : RefusedSide) (s : List ℤ) {c : Check} {o : Verdict} {l : Outline} → check s ≡ c → o ≡ verdict side c
-    → l ≡ outlineRead c (corners s) → _≡_ {A = Reading} (record { verdict = o; outline = l }) (reading side s)
+    → l ≡ ifPassed c (held (corners s)) (held []) → _≡_ {A = Reading} (record { verdict = o; outline = l }) (reading side s)
 reading-is side s found ends reads = λ i. record {
   verdict = (ends ∙ ap (verdict side) (sym found)) i;
-  outline = (reads ∙ ap (λ (c : Check). outlineRead c (corners s)) (sym found)) i;
+  outline = (reads ∙ ap (λ (c : Check). ifPassed c (held (corners s)) (held [])) (sym found)) i;
 }
 
 check-requires : tie.Need-check-requires
@@ -38,17 +40,22 @@ enum-known-f c = search needs
 refusal-requires : tie.Need-refusal-requires
 refusal-requires c κs = search needs
 
-none-requires : tie.Need-none-requires
-none-requires c κs = search needs
+slice-aggregate-hold : tie.Need-slice-aggregate-hold
+slice-aggregate-hold c = search needs
+
+hold-requires-2 : tie.Need-hold-requires-2
+unfolding corners
+hold-requires-2 c κs = omega arith
 
 returns : tie.Need-returns
 returns c =
     reading-is _ _ (sym (c .before .before .before .check .ensures) ∙ c .before .enum-told .given .1) refl (c .hold .ensures)
 
 returns-2 : tie.Need-returns-2
+unfolding corners
 returns-2 c =
-    reading-is _ _ (sym (c .before .before .before .before .before .check .ensures) ∙ c .before .before .before .f .given .1)
-    (ap Refused (c .before .refusal .ensures)) (c .none .ensures)
+    reading-is _ _ (sym (c .before .before .before .before .before .before .check .ensures) ∙ c .before .before .before .before .f .given .1)
+    (ap Refused (c .before .before .refusal .ensures)) (c .hold2 .ensures)
 
 pub read-spec : {M : Type 1} → statement M
 read-spec =
@@ -59,6 +66,7 @@ read-spec =
     hold-requires
     enum-known-f
     refusal-requires
-    none-requires
+    slice-aggregate-hold
+    hold-requires-2
     returns
     returns-2)

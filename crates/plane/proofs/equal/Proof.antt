@@ -1,6 +1,6 @@
 -- `plane::equal` compares bits, which tells whether the numbers are equal.
 use mir.Syntax.{w32}
-use Rattle.integers.proofs.Equal.{equal-bits}
+use Rattle.integers.proofs.Machine.{equal-bits}
 use Rattle.plane.proofs.equal.Statement.{statement}
 use Rattle.plane.proofs.equal.Tie as tie
 

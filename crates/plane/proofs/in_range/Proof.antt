@@ -3,7 +3,7 @@ use borrow.Author.Needs.{needs, sfits-of}
 use mir.Facts.{toZ-ofZ}
 use mir.Syntax.{w32}
 use mir.Val.{SFits}
-use Rattle.integers.proofs.Tests.{and-then, and-stop}
+use Rattle.integers.proofs.Reflect.{and-then, and-stop}
 use Rattle.plane.specs.Range.{inRange}
 use Rattle.plane.proofs.in_range.Statement.{statement}
 use Rattle.plane.proofs.in_range.Tie as tie

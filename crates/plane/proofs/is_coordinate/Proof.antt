@@ -14,11 +14,11 @@ use Rattle.plane.proofs.is_coordinate.Tie as tie
 
 below : (z : ℤ) → ltZ z (negℤ (pos limit)) ≡ true → false ≡ isCoordinate z
 below (pos n) e = absurd (false≢true e)
-below (negsuc n) e = sym (lt-leb (suc n) limit (omega (arith, ltb-true 15999 n e)))
+below (negsuc n) e = sym (lt-leb (suc n) limit (omega (arith, ltb-true _ n e)))
 
 not-below : (z : ℤ) → ltZ z (negℤ (pos limit)) ≡ false → leZ z (pos limit) ≡ isCoordinate z
 not-below (pos n) e = refl
-not-below (negsuc n) e = sym (le-leb (suc n) limit (omega (arith, ltb-false 15999 n e)))
+not-below (negsuc n) e = sym (le-leb (suc n) limit (omega (arith, ltb-false _ n e)))
 
 sub-if1 : tie.Need-sub-if1
 sub-if1 c = search needs

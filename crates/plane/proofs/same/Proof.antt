@@ -3,7 +3,7 @@ use borrow.Author.Needs.{needs, sfits-of}
 use mir.Facts.{toZ-ofZ}
 use mir.Syntax.{w32}
 use mir.Val.{SFits}
-use Rattle.integers.proofs.Tests.{and-then, and-stop}
+use Rattle.integers.proofs.Reflect.{and-then, and-stop}
 use Rattle.plane.specs.declared.Corner.{Corner}
 use Rattle.plane.specs.Vector.{same}
 use Rattle.plane.proofs.same.Statement.{statement}

@@ -1,5 +1,7 @@
 -- `plane::side` meets its contract: the two products and their difference are exact in 64 bits.
-use Rattle.plane.proofs.Arithmetic.{product-fits, minus-fits, cross-exact}
+use mir.Syntax.{w64}
+use Rattle.integers.proofs.Machine.{stored}
+use Rattle.plane.proofs.Arithmetic.{product-fits, minus-fits, cross-is}
 use Rattle.plane.proofs.side.Statement.{statement}
 use Rattle.plane.proofs.side.Tie as tie
 
@@ -13,7 +15,9 @@ sub-result : tie.Need-sub-result
 sub-result c = search minus-fits
 
 returns : tie.Need-returns
-returns c = let pre = c .before .before .before .before .before .before .before .before .pre in cross-exact (pre .0) (pre .1)
+returns c =
+    let pre = c .before .before .before .before .before .before .before .before .pre in
+    stored w64 (cross-is (pre .0) (pre .1)) tt .exact
 
 pub side-spec : {M : Type 1} → statement M
 side-spec = tie.close (tie.spec mul-result mul-result-2 sub-result returns)

@@ -2,7 +2,7 @@
 use borrow.Author.Needs.{needs}
 use mathlib.Core.Path.{_≡_, _∙_}
 use Prim.Native.Nat.{_*_, _/_, _%_}
-use Rattle.integers.proofs.FractionLaws.{order-parts, then}
+use Rattle.integers.proofs.FractionLaws.{order-parts, then, remainder-fits}
 use Rattle.integers.specs.Fraction.{order, Bounded}
 use Rattle.integers.specs.declared.fraction.Fraction.{Fraction}
 use Rattle.integers.specs.declared.fraction.Order.{Order}
@@ -32,8 +32,20 @@ enum-told c = search needs
 enum-told-2 : tie.Need-enum-told-2
 enum-told-2 c = search needs
 
-compare-remainders-requires : tie.Need-compare-remainders-requires
-compare-remainders-requires c κs = search needs
+rem-compare-numbers : tie.Need-rem-compare-numbers
+rem-compare-numbers c = search needs
+
+mul-compare-numbers : tie.Need-mul-compare-numbers
+mul-compare-numbers c = record { fits = remainder-fits _ (search needs) (search needs) (search needs) }
+
+rem-compare-numbers-2 : tie.Need-rem-compare-numbers-2
+rem-compare-numbers-2 c = search needs
+
+mul-compare-numbers-2 : tie.Need-mul-compare-numbers-2
+mul-compare-numbers-2 c = record { fits = remainder-fits _ (search needs) (search needs) (search needs) }
+
+compare-numbers-requires-2 : tie.Need-compare-numbers-requires-2
+compare-numbers-requires-2 c κs = search needs
 
 enum-told-3 : tie.Need-enum-told-3
 enum-told-3 c = search needs
@@ -45,10 +57,8 @@ returns c =
 
 returns-2 : tie.Need-returns-2
 returns-2 c =
-    c .compare-remainders .ensures
-    ∙ decided _ _ Equal (c .before .before .before .before .before .before .pre)
-    (c .before .before .before .compare-numbers .ensures)
-    (c .before .enum-told2 .given .1)
+    c .compare-numbers2 .ensures
+    ∙ decided _ _ Equal (c .before .before .before .before .before .before .before .before .before .before .pre) (c .before .before .before .before .before .before .before .compare-numbers .ensures) (c .before .before .before .before .before .enum-told2 .given .1)
 
 returns-3 : tie.Need-returns-3
 returns-3 c =
@@ -64,7 +74,11 @@ compare-spec =
     compare-numbers-requires
     enum-told
     enum-told-2
-    compare-remainders-requires
+    rem-compare-numbers
+    mul-compare-numbers
+    rem-compare-numbers-2
+    mul-compare-numbers-2
+    compare-numbers-requires-2
     enum-told-3
     returns
     returns-2

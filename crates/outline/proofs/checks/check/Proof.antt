@@ -7,17 +7,10 @@ use Rattle.outline.specs.declared.Check.{Check}
 use Rattle.outline.specs.Checks.{_orElse_}
 use Rattle.outline.specs.Corners.{corners}
 use Rattle.outline.specs.Reading.{oddLength, tooFew, tooMany, outOfRange, repeated, notLeft, check}
-use Rattle.outline.proofs.ChecksLaws.{orElse-assoc, stops, goes-on}
+use Rattle.outline.proofs.ChecksLaws.{stop, pass}
 use Rattle.outline.proofs.Stages.{outOfRange-passed}
 use Rattle.outline.proofs.checks.check.Statement.{statement}
 use Rattle.outline.proofs.checks.check.Tie as tie
-
--- the first three checks are made by one function
-grouped : (s : List ℤ)
-    → (oddLength s orElse tooFew (corners s) orElse tooMany (corners s)) orElse outOfRange (corners s) orElse repeated (corners s) orElse notLeft (corners s) ≡ check s
-unfolding check
-grouped s =
-    orElse-assoc (oddLength s) _ _ ∙ ap (λ (c : Check). oddLength s orElse c) (orElse-assoc (tooFew (corners s)) _ _)
 
 check-count-requires : tie.Need-check-count-requires
 check-count-requires c κs = search needs
@@ -26,7 +19,8 @@ enum-known-f : tie.Need-enum-known-f
 enum-known-f c = search needs
 
 returns : tie.Need-returns
-returns c = stops _ (c .before .before .before .check-count .ensures) (c .before .f .given .1) ∙ grouped _
+unfolding check
+returns c = sym (stop _ (stop _ (stop _ (sym (c .before .before .before .check-count .ensures) ∙ c .before .f .given .1))))
 
 enum-told : tie.Need-enum-told
 enum-told c = search needs
@@ -38,10 +32,10 @@ enum-known-f-2 : tie.Need-enum-known-f-2
 enum-known-f-2 c = search needs
 
 returns-2 : tie.Need-returns-2
+unfolding check
 returns-2 c =
-    goes-on _ (c .before .before .before .before .before .before .check-count .ensures)
-    (c .before .before .before .before .enum-told .given .1)
-    (stops _ (c .before .before .before .check-range .ensures) (c .before .f2 .given .1)) ∙ grouped _
+    let count = sym (c .before .before .before .before .before .before .check-count .ensures) ∙ c .before .before .before .before .enum-told .given .1 in
+    sym (stop _ (stop _ (pass count (sym (c .before .before .before .check-range .ensures) ∙ c .before .f2 .given .1))))
 
 enum-told-2 : tie.Need-enum-told-2
 enum-told-2 c = search needs
@@ -53,11 +47,11 @@ enum-known-f-3 : tie.Need-enum-known-f-3
 enum-known-f-3 c = search needs
 
 returns-3 : tie.Need-returns-3
+unfolding check
 returns-3 c =
-    goes-on _ (c .before .before .before .before .before .before .before .before .before .check-count .ensures)
-    (c .before .before .before .before .before .before .before .enum-told .given .1)
-    (goes-on _ (c .before .before .before .before .before .before .check-range .ensures) (c .before .before .before .before .enum-told2 .given .1)
-    (stops _ (c .before .before .before .check-repeated .ensures) (c .before .f3 .given .1))) ∙ grouped _
+    let count = sym (c .before .before .before .before .before .before .before .before .before .check-count .ensures) ∙ c .before .before .before .before .before .before .before .enum-told .given .1 in
+    let range = sym (c .before .before .before .before .before .before .check-range .ensures) ∙ c .before .before .before .before .enum-told2 .given .1 in
+    sym (stop _ (pass (pass count range) (sym (c .before .before .before .check-repeated .ensures) ∙ c .before .f3 .given .1)))
 
 enum-told-3 : tie.Need-enum-told-3
 enum-told-3 c = search needs
@@ -68,12 +62,12 @@ check-convex-requires c κs =
     (sym (c .before .before .before .before .before .check-range .ensures) ∙ c .before .before .before .enum-told2 .given .1)
 
 returns-4 : tie.Need-returns-4
+unfolding check
 returns-4 c =
-    goes-on _ (c .before .before .before .before .before .before .before .before .before .check-count .ensures)
-    (c .before .before .before .before .before .before .before .enum-told .given .1)
-    (goes-on _ (c .before .before .before .before .before .before .check-range .ensures) (c .before .before .before .before .enum-told2 .given .1)
-    (goes-on _ (c .before .before .before .check-repeated .ensures) (c .before .enum-told3 .given .1) (c .check-convex .ensures)))
-    ∙ grouped _
+    let count = sym (c .before .before .before .before .before .before .before .before .before .check-count .ensures) ∙ c .before .before .before .before .before .before .before .enum-told .given .1 in
+    let range = sym (c .before .before .before .before .before .before .check-range .ensures) ∙ c .before .before .before .before .enum-told2 .given .1 in
+    let repeated = sym (c .before .before .before .check-repeated .ensures) ∙ c .before .enum-told3 .given .1 in
+    sym (pass (pass (pass count range) repeated) (sym (c .check-convex .ensures)))
 
 pub check-spec : {M : Type 1} → statement M
 check-spec =

@@ -1,5 +1,7 @@
 -- `outline::checks::is_not_left` leaves the edge's two ends out and then goes by the side number's sign.
-use borrow.Author.Needs.{needs}
+use borrow.Author.Needs.{needs, sfits-of}
+use mir.Facts.{toZ-ofZ}
+use mir.Val.{SFits}
 use borrow.Author.Tests.{eq-eqb, ne-eqb}
 use mathlib.Core.Bool.{Bool, false, not, _&&_}
 use mathlib.Core.Path.{_≡_, ap, _∙_}
@@ -13,7 +15,7 @@ use Rattle.plane.specs.declared.Corner.{Corner}
 use Rattle.plane.specs.declared.Vector.{Vector}
 use Rattle.plane.specs.Range.{InRange, Span, reach}
 use Rattle.plane.specs.Vector.{_⇀_, cross}
-use Rattle.plane.proofs.Range.{span-⇀, span-difference, atMost-cross}
+use Rattle.plane.proofs.Range.{span-difference}
 use Rattle.outline.proofs.checks.is_not_left.Statement.{statement}
 use Rattle.outline.proofs.checks.is_not_left.Tie as tie
 
@@ -27,12 +29,6 @@ module _ (c e f : ℕ) (b : Bool) where
 
   elsewhere : (c ≡ e → ⊥) → (c ≡ f → ⊥) → b ≡ (not (eqb c e) && not (eqb c f) && b)
   elsewhere other another = rw (ne-eqb c e other, ne-eqb c f another)
-
--- the side number is read back from 64 bits as it is
-side-read : {edge to : Vector} {p v : Corner} {z : ℤ}
-    → Span reach edge → InRange p → InRange v → to ≡ p ⇀ v → z ≡ cross edge to → i64 z ≡ cross edge (p ⇀ v)
-side-read {edge} span p-in v-in runs is =
-    stored w64 (record { bound = atMost-cross span (span-⇀ p-in v-in); exact = is ∙ ap (cross edge) runs }) tt .exact
 
 returns : tie.Need-returns
 returns c = at-start _ _ _ _ (c .if1 .taken)
@@ -48,9 +44,9 @@ side-requires c κs = search span-difference
 
 returns-3 : tie.Need-returns-3
 returns-3 c =
-    let pre = c .before .before .before .before .before .before .pre in
-    let side-is = side-read (pre .0) (pre .1 .0) (pre .1 .1) (c .before .difference .ensures) (c .side .ensures) in
-    ap (λ (z : ℤ). leZ z (pos 0)) side-is ∙ elsewhere _ _ _ _ (c .before .before .before .before .if1 .left) (c .before .before .if2 .left)
+    let side-fits : SFits w64 (c .side .result) = search sfits-of in
+    rw (toZ-ofZ side-fits, c .side .ensures, c .before .difference .ensures)
+    (elsewhere _ _ _ _ (c .before .before .before .before .if1 .left) (c .before .before .if2 .left))
 
 pub is-not-left-spec : {M : Type 1} → statement M
 is-not-left-spec = tie.close (tie.spec returns returns-2 difference-requires side-requires returns-3)
