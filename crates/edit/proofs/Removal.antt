@@ -1,6 +1,6 @@
 -- Laws of removing a corner.
---     removal-failed      the checks find a fault exactly where it stands against the removal; `stands-failed` is the way back
---     removal-passed      they pass exactly where document 01's conditions hold
+--     removal-failed      the checks find a fault exactly where it stands against the removal and none before it does
+--     removal-passed      they pass exactly where the removal is permitted (`Permitted`)
 --     removal-refused, removal-taken    what the call then answers, and what it leaves in the list to write
 --     removal-able        where they pass the other corners can be written
 --     removal-accepted    and what is written is an accepted outline
@@ -27,8 +27,8 @@ use Rattle.outline.specs.Reading.{check}
 use Rattle.outline.specs.Refusal.{refusal}
 use Rattle.outline.proofs.Acceptance.{accepted}
 use Rattle.outline.proofs.CornersLaws.{length-coordinates, corners-coordinates}
-use Rattle.outline.proofs.ChecksLaws.{passed≢failed}
-use Rattle.outline.proofs.First.{not-failed, failIf-failed, order-failed, order-passed}
+use Rattle.outline.proofs.ChecksLaws.{passed≢failed, not-failed, failIf-failed}
+use Rattle.outline.proofs.First.{order-failed, order-passed}
 use Rattle.edit.specs.Removal.{without, removal, removalVerdict, listAfter, StandsAt, Removable}
 use Rattle.edit.proofs.Without.{without-accepted}
 
@@ -48,7 +48,8 @@ module _ (s : List ℤ) (k room : ℕ) where
 
   abbrev stage : ℕ → Check
   stage j =
-      getD (check s ∷ failIf (leb n k) NoSuchCorner ∷ failIf (eqb n fewest) TooFewCorners ∷ failIf (not (eqb room left)) WrongLength ∷ []) j Passed
+      getD
+      (check s ∷ failIf (leb n k) NoSuchCorner ∷ failIf (eqb n fewest) TooFewCorners ∷ failIf (not (eqb room left)) WrongLength ∷ []) j Passed
 
   removal-stages : removal s k room ≡ each stage 4
   unfolding removal each

@@ -15,7 +15,7 @@ use Rattle.outline.specs.Corners.{corner}
 use Rattle.outline.specs.Convex.{StrictlyConvex, Accepted}
 use Rattle.edit.specs.Removal.{without, kept}
 use Rattle.outline.proofs.CornersLaws.{length-coordinates}
-use Rattle.outline.proofs.LeftTurns.{convex-turns, turns-convex}
+use Rattle.outline.proofs.LeftTurns.{convex-part}
 
 pub kept-before : (k i : ℕ) → i < k → kept k i ≡ i
 kept-before zero i h = absurd (omega arith)
@@ -54,11 +54,8 @@ corner-without (suc k) (c ∷ cs) zero = refl
 corner-without (suc k) (c ∷ cs) (suc i) = corner-without k cs i
 
 pub without-convex : (cs : List Corner) (k : ℕ) → k < length cs → StrictlyConvex cs → StrictlyConvex (without k cs)
-without-convex cs k h convex =
-    turns-convex (without k cs)
-    λ i j l a b c. rw (corner-without k cs i, corner-without k cs j, corner-without k cs l)
-    (convex-turns cs convex (kept k i) (kept k j) (kept k l) (kept-mono k i j a) (kept-mono k j l b)
-    (omega (arith, kept-≤ k l, length-without k cs h)))
+without-convex cs k h =
+    convex-part cs (without k cs) (kept k) (kept-mono k) (λ i b. omega (arith, kept-≤ k i, length-without k cs h)) (corner-without k cs)
 
 pub without-accepted : (cs : List Corner) (k : ℕ) → Accepted cs → 4 ≤ length cs → k < length cs → Accepted (without k cs)
 without-accepted cs k a four h =

@@ -3,7 +3,8 @@
 --     removal           the checks, in document 01's order
 --     removalVerdict    what the call answers
 --     listAfter         what the list to write holds after the call
---     Stands            what stands against the removal, as document 01 words it; `proofs/Removal.antt` shows that the checks find it
+--     conditions        when each fault stands against the removal, in document 01's order; `proofs/Removal.antt` shows that the
+--                       checks find the first that does. `StandsAt` is the i-th condition
 -- For the code that writes:
 --     Removable         what it needs
 --     kept              the number in the longer list of the i-th of the other corners
@@ -12,17 +13,17 @@ use Prim.Native.Nat.{ℕ, zero, suc, _+_, _*_, _≤_, _<_}
 use mathlib.Core.Path.{_≡_}
 use mathlib.Core.Logic.{_≢_}
 use mathlib.Core.Bool.{not}
-use mathlib.Core.List.{List, _++_}
+use mathlib.Core.List.{List, [], _∷_, _++_}
 use lib.Dec.{leb, eqb}
 use lib.IntN.{ℤ}
-use lib.ListN.{length, take, drop, set}
+use lib.ListN.{length, getD, take, drop, set}
 use Rattle.plane.specs.declared.Corner.{Corner}
 use Rattle.plane.specs.Vector.{coordinates}
 use Rattle.outline.specs.declared.Check.{Check}
-use Rattle.outline.specs.declared.Check.the-variants.{Passed, Failed}
+use Rattle.outline.specs.declared.Check.the-variants.{Failed}
 use Rattle.outline.specs.declared.Fault.{Fault}
 use Rattle.outline.specs.declared.Fault.the-variants.{TooFewCorners, NoSuchCorner, WrongLength}
-use Rattle.outline.specs.Checks.{failIf, _orElse_}
+use Rattle.outline.specs.Checks.{failIf, _orElse_, ifPassed}
 use Rattle.outline.specs.Corners.{corners, fewest}
 use Rattle.outline.specs.Reading.{check}
 use Rattle.outline.specs.Refusal.{verdict}
@@ -44,21 +45,20 @@ removal s k room =
 abbrev pub removalVerdict : List ℤ → ℕ → List ℤ → Verdict
 removalVerdict s k out = verdict NoSide (removal s k (length out))
 
--- the second list where the checks pass, the first where they fail
-abbrev ifPassed : Check → List ℤ → List ℤ → List ℤ
-ifPassed Passed before after = after
-ifPassed (Failed f) before after = before
-
 -- what remains, or what it held where the call is refused
 abbrev pub listAfter : List ℤ → ℕ → List ℤ → List ℤ
-listAfter s k out = ifPassed (removal s k (length out)) out (coordinates (without k (corners s)))
+listAfter s k out = ifPassed (removal s k (length out)) (coordinates (without k (corners s))) out
+
+abbrev pub conditions : List ℤ → ℕ → ℕ → List (Fault → Type 0)
+conditions s k room =
+    (λ f. check s ≡ Failed f)
+    ∷ (λ f. (NoSuchCorner ≡ f) × (length (corners s) ≤ k))
+    ∷ (λ f. (TooFewCorners ≡ f) × (length (corners s) ≡ fewest))
+    ∷ (λ f. (WrongLength ≡ f) × (room ≢ length (coordinates (without k (corners s)))))
+    ∷ []
 
 abbrev pub StandsAt : List ℤ → ℕ → ℕ → ℕ → Fault → Type 0
-StandsAt s k room zero f = check s ≡ Failed f
-StandsAt s k room (suc zero) f = (NoSuchCorner ≡ f) × (length (corners s) ≤ k)
-StandsAt s k room (suc (suc zero)) f = (TooFewCorners ≡ f) × (length (corners s) ≡ fewest)
-StandsAt s k room (suc (suc (suc zero))) f = (WrongLength ≡ f) × (room ≢ length (coordinates (without k (corners s))))
-StandsAt s k room (suc (suc (suc (suc j)))) f = ⊥
+StandsAt s k room i f = getD (conditions s k room) i (λ _. ⊥) f
 
 -- the list has corner k, and what remains fills the list to write
 pub record Removable (s : List ℤ) (k : ℕ) (out : List ℤ) : Type 0 where

@@ -1,10 +1,10 @@
 -- The size of whole numbers, and signed machine arithmetic that stays within computed bounds, at any width.
 --     natAbs-neg, natAbs-+, natAbs-*     the size of a negation, a sum, a product
 --     atMost-neg, atMost-+, atMost--, atMost-*     the same for bounds
---     held w z, i32, i64      z as a local or field of the width holds it: written as bits and read back
+--     local w z, i32, i64      z as a local or field of the width holds it: written as bits and read back
 --     Exact b z e             the machine's expression e is exactly the whole number z, which is at most b in size
 --     value, field            an expression starts from a known bound, from a value of its type
---     stored                  it is held in a local, perhaps wider: so a widening cast too
+--     stored                  it is local in a local, perhaps wider: so a widening cast too
 --     plus, minus, times      the operations
 --     fits                    it ends: the result fits its type. That it is z is `stored w r tt .exact`
 --     size-fits               a number that is not negative is cast to an unsigned type
@@ -72,14 +72,14 @@ atMost-* {a} {b} {y} {z} h k = record { size = rw natAbs-* (mul-le-mul (h .size)
 
 -- expressions of the machine
 
-abbrev pub held : Width → ℤ → ℤ
-held w z = toZ w (ofZ w z)
+abbrev pub local : Width → ℤ → ℤ
+local w z = toZ w (ofZ w z)
 
 abbrev pub i32 : ℤ → ℤ
-i32 = held w32
+i32 = local w32
 
 abbrev pub i64 : ℤ → ℤ
-i64 = held w64
+i64 = local w64
 
 -- a record, so that all three can be inferred from an operand
 pub record Exact (b : ℕ) (z e : ℤ) : Type 0 where
@@ -89,7 +89,7 @@ pub record Exact (b : ℕ) (z e : ℤ) : Type 0 where
 pub value : {b : ℕ} {z : ℤ} → AtMost b z → Exact b z z
 value h = record { bound = h; exact = refl }
 
-pub field : {w : Width} {z : ℤ} → SFits w z → Exact (2 ^ hbits w) z (held w z)
+pub field : {w : Width} {z : ℤ} → SFits w z → Exact (2 ^ hbits w) z (local w z)
 field {w} {z} f = record { bound = record { size = natAbs-le z (f .sfits) }; exact = toZ-ofZ w z f }
 
 pub plus : {a b : ℕ} {y z d e : ℤ} → Exact a y d → Exact b z e → Exact (a + b) (y +ℤ z) (d +ℤ e)
@@ -106,7 +106,7 @@ fits {w} {b} {z} r t =
     rw (r .exact)
     (record { sfits = lt-of-le-of-lt (le-trans (mag-natAbs z) (r .bound .size)) (ltb→lt b (2 ^ hbits w) t) })
 
-pub stored : {b : ℕ} {z e : ℤ} (w : Width) → Exact b z e → T (ltb b (2 ^ hbits w)) → Exact b z (held w e)
+pub stored : {b : ℕ} {z e : ℤ} (w : Width) → Exact b z e → T (ltb b (2 ^ hbits w)) → Exact b z (local w e)
 stored {e} w r t = record { bound = r .bound; exact = toZ-ofZ w e (fits r t) ∙ r .exact }
 
 -- what the cast of e to an unsigned type asks

@@ -21,50 +21,32 @@ use Rattle.outline.specs.declared.Check.the-variants.{Passed, Failed}
 use Rattle.outline.specs.Corners.{corners, corner, next}
 use Rattle.outline.specs.Convex.{Accepted}
 use Rattle.outline.specs.Reading.{check}
-use Rattle.outline.specs.Applies.{Lowest, Applies, rank}
+use Rattle.outline.specs.Applies.{Applies, rank}
 use Rattle.outline.proofs.CornersLaws.{next-below, next-other, next-next-other}
-use Rattle.outline.proofs.First.{FailsWhere, each-none, each-lowest}
+use Rattle.outline.proofs.First.{order-passed, order-failed}
 use Rattle.outline.proofs.ChecksLaws.{passed≢failed, each-passed}
 use Rattle.outline.proofs.Stages.{stages, stage, check-stages, stage-failed, stage-fails, outOfRange-passed, notLeft-passed}
 
--- a fault with this rank applies
-abbrev AppliesAt : List ℤ → ℕ → Type 0
-AppliesAt s k = (f : Fault) × (rank f ≡ k) × Applies s f
-
 module _ (s : List ℤ) where
-  -- the checks of the ranks are checks in order themselves: each fails exactly where a fault of its rank applies
-  stages-fail : FailsWhere (AppliesAt s) (stage s)
-  stages-fail = record {
-    holds = λ k f fails. (let found = stage-failed s k f fails in (f, found .0, found .1));
-    not-holds = λ k passes found. passed≢failed passes (rw (found .1) at (stage-fails s (found .0) (found .2)));
-  }
+  -- the check of rank k finds a fault exactly where it has that rank and applies
+  finds : (k : ℕ) (f : Fault) → (stage s k ≡ Failed f) ↔ ((rank f ≡ k) × Applies s f)
+  finds k f = (stage-failed s k f, λ found. subst (λ (i : ℕ). stage s i ≡ Failed f) (found .0) (stage-fails s f (found .1)))
 
-  rank-below : (f : Fault) → Applies s f → rank f < 6
-  rank-below f applies = lt-of-not-le (λ past. passed≢failed (List·getD-eq-default (stages s) Passed past) (stage-fails s f applies))
+  -- so its rank is that of a check
+  rank-below : (f : Fault) → Applies s f → rank f < length (stages s)
+  rank-below f applies =
+      lt-of-not-le (λ past. passed≢failed (List·getD-eq-default (stages s) Passed past) (stage-fails s f applies))
 
   pub first-stands : (f : Fault) → (check s ≡ Failed f) ↔ (Applies s f × ((g : Fault) → rank g < rank f → ¬ Applies s g))
-  first-stands f = rw (check-stages s) (Iff·trans (each-lowest stages-fail 6 f) (stands, found))
-    where
-      stands : (k : ℕ) × (stage s k ≡ Failed f) × Lowest (AppliesAt s) 6 k → Applies s f × ((g : Fault) → rank g < rank f → ¬ Applies s g)
-      stands (k, fails, low) =
-          let (rank-f, applies) = stage-failed s k f fails in
-          (applies, λ g lower other. low .lowest (rank g) (rw rank-f at lower) (g, refl, other))
-
-      found : Applies s f × ((g : Fault) → rank g < rank f → ¬ Applies s g) → (k : ℕ) × (stage s k ≡ Failed f) × Lowest (AppliesAt s) 6 k
-      found (applies, none) = (
-        rank f,
-        stage-fails s f applies,
-        record {
-          below = rank-below f applies;
-          here = (f, refl, applies);
-          lowest = λ j lower other. none (other .0) (rw (other .1) lower) (other .2);
-        },
-      )
+  first-stands f = rw (check-stages s) (Iff·trans (order-failed finds (length (stages s)) f) (
+    λ (k, below, at, none). (at .1, λ g lower other. none (rank g) (rw (at .0) at lower) g (refl, other)),
+    λ (applies, none). (rank f, rank-below f applies, (refl, applies), λ j lower g other. none g (rw (other .0) lower) (other .1)),
+  ))
 
   pub none-applies : (check s ≡ Passed) ↔ ((g : Fault) → ¬ Applies s g)
-  none-applies = rw (check-stages s) (Iff·trans (each-none stages-fail 6) (
-    λ none g applies. none (rank g) (rank-below g applies) (g, refl, applies),
-    λ none k below found. none (found .0) (found .2),
+  none-applies = rw (check-stages s) (Iff·trans (order-passed finds (length (stages s))) (
+    λ none g applies. none (rank g) (rank-below g applies) g (refl, applies),
+    λ none k below g found. none g (found .1),
   ))
 
 -- such an edge would have every corner on its line, and there is a third corner
@@ -90,7 +72,7 @@ accepted s = (there, λ h. none-applies s .1 (none (h .0) (h .1)))
   where
     there : check s ≡ Passed → (length s % 2 ≡ 0) × Accepted (corners s)
     there e =
-        let pass = each-passed (stage s) 6 .0 (sym (check-stages s) ∙ e) in
+        let pass = each-passed (stage s) (length (stages s)) .0 (sym (check-stages s) ∙ e) in
         let none = none-applies s .0 e in (
           omega (arith, none OddLength),
           record {

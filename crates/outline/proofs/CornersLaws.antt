@@ -7,7 +7,7 @@
 --     corner-at                      document 01: corner i is numbers 2 i and 2 i + 1
 --     length-coordinates, coordinate-x, coordinate-y    the same for corners written as numbers
 --     corners-coordinates            corners written as numbers and read again are the same corners
-use Prim.Native.Nat.{ℕ, zero, suc, _+_, _*_, _/_, _%_, _<_, _≤_}
+use Prim.Native.Nat.{ℕ, zero, suc, _+_, _*_, _/_, _<_, _≤_}
 use mathlib.Core.Path.{_≡_, refl, ap}
 use mathlib.Core.Logic.{_≢_, _⊎_, inl, inr, ⊎-elim}
 use mathlib.Core.Bool.{Bool, true, false}

@@ -1,31 +1,18 @@
--- What `each` finds: the first of the checks at 0, 1, .. below n that fails.
---     AllPass                        the checks at all numbers below n pass
---     First                          the check at some number below n fails so, and all before it pass
---     each-passed, each-failed       `each` passes exactly where all checks pass, and fails so exactly where there is such a first check
---     each-none, each-lowest         where a check fails exactly where something holds: it holds nowhere below n; its lowest place
---     failIf-passed, failIf-failed, test-fails, test-lowest    the same for a check that a test makes
---     orElse-passed, orElse-failed   of two checks: both pass; the first fails, or it passes and the second fails
-use Prim.Native.Nat.{ℕ, zero, suc, _-_, _<_, _≤_}
-use mathlib.Core.Path.{_≡_, refl, ap, subst, _∙_}
-use mathlib.Core.Logic.{_↔_, Iff·trans, _⊎_, inl, inr, ⊎-elim}
-use mathlib.Core.Bool.{Bool, true, false, true≢false, false≢true}
-use native.Mathlib.Nat.{sub-zero, eq-or-lt-of-le, le-of-suc-le-suc}
-use native.Mathlib.Numerals.{add-one}
-use native.Mathlib.Omega.{arith}
-use Rattle.integers.proofs.Reflect.{test-false}
+-- The first of the checks below n that fails, by what the checks mean.
+--     FailsWhere                a check that fails exactly where something holds
+--     each-none, each-lowest    of such checks: it holds nowhere below n; the fault is that of the lowest place where it holds
+--     test-fails, test-lowest   the same for checks that tests make
+--     order-passed, order-failed    of checks that each find one kind of fault: none is there; the first kind that is there stands
+use Prim.Native.Nat.{ℕ, _<_}
+use mathlib.Core.Path.{_≡_}
+use mathlib.Core.Logic.{_↔_, Iff·trans}
+use mathlib.Core.Bool.{Bool, true}
 use Rattle.outline.specs.declared.Check.{Check}
-use Rattle.outline.specs.declared.Fault.{Fault}
 use Rattle.outline.specs.declared.Check.the-variants.{Passed, Failed}
-use Rattle.outline.specs.Checks.{_orElse_, each, failIf}
+use Rattle.outline.specs.declared.Fault.{Fault}
 use Rattle.outline.specs.Applies.{Lowest}
-use Rattle.outline.proofs.ChecksLaws.{passed≢failed, AllPass, First, each-passed, each-failed}
-
-pub not-failed : (c : Check) → ((f : Fault) → ¬ (c ≡ Failed f)) → c ≡ Passed
-not-failed Passed none = refl
-not-failed (Failed f) none = absurd (none f refl)
-
-failed-inj : {c : Check} {f g : Fault} → c ≡ Failed f → c ≡ Failed g → f ≡ g
-failed-inj p q = cc
+use Rattle.outline.specs.Checks.{each, failIf}
+use Rattle.outline.proofs.ChecksLaws.{passed≢failed, not-failed, failIf-passed, failIf-failed, First, each-passed, each-failed}
 
 -- a check that fails exactly where something holds
 pub record FailsWhere (P : ℕ → Type 0) (check : ℕ → Check) : Type 0 where
@@ -58,20 +45,6 @@ module _ {P : ℕ → Type 0} {check : ℕ → Check} (decides : FailsWhere P ch
       first : (i : ℕ) × (check i ≡ Failed f) × Lowest P n i → First check n f
       first (i, fails, low) = record { place = i; below = low .below; fails = fails; earlier = λ j lower. passes j (low .lowest j lower) }
 
--- ---- checks that tests make
-
-module _ {P : Type 0} where
-  pub failIf-passed : (b : Bool) → ((b ≡ true) ↔ P) → (f : Fault) → (failIf b f ≡ Passed) ↔ (¬ P)
-  failIf-passed b means f = Iff·trans (passed-false b) (test-false b means)
-    where
-      passed-false : (b : Bool) → (failIf b f ≡ Passed) ↔ (b ≡ false)
-      passed-false true = (λ e. absurd (passed≢failed e refl), λ e. absurd (true≢false e))
-      passed-false false = (λ _. refl, λ _. refl)
-
-  pub failIf-failed : (b : Bool) → ((b ≡ true) ↔ P) → (f g : Fault) → (failIf b f ≡ Failed g) ↔ ((f ≡ g) × P)
-  failIf-failed true means f g = (λ e. (failed-inj refl e, means .0 refl), λ both. ap Failed (both .0))
-  failIf-failed false means f g = (λ e. absurd (passed≢failed refl e), λ both. absurd (false≢true (means .1 (both .1))))
-
 module _ {P : ℕ → Type 0} (t : ℕ → Bool) (means : (i : ℕ) → (t i ≡ true) ↔ P i) (fault : ℕ → Fault) where
   pub test-fails : FailsWhere P (λ i. failIf (t i) (fault i))
   test-fails = record {
@@ -88,8 +61,7 @@ module _ {P : ℕ → Type 0} (t : ℕ → Bool) (means : (i : ℕ) → (t i ≡
       back : (i : ℕ) × (fault i ≡ f) × Lowest P n i → (i : ℕ) × (failIf (t i) (fault i) ≡ Failed f) × Lowest P n i
       back (i, e, low) = (i, failIf-failed (t i) (means i) (fault i) f .1 (e, low .here), low)
 
--- ---- checks of which each finds what is said of its place
-
+-- At i f: the fault f is of kind i, and is there
 module _ {At : ℕ → Fault → Type 0} {check : ℕ → Check} (finds : (i : ℕ) (f : Fault) → (check i ≡ Failed f) ↔ At i f) (n : ℕ) where
   none-at : (i : ℕ) → (check i ≡ Passed) ↔ ((f : Fault) → ¬ At i f)
   none-at i = (

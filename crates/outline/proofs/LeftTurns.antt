@@ -1,10 +1,12 @@
--- Strict convexity without edges: any three corners, in number order, turn left. A part of such a list is such a list.
+-- Strict convexity without edges: any three corners, in number order, turn left. So a part of a strictly convex list is one.
 --     LeftTurns       any three corners, in number order, turn left
 --     convex-turns    so it is in a strictly convex list
 --     turns-convex    and a list in which it is so is strictly convex
+--     convex-part     a list of some corners of a strictly convex list, in their order, is strictly convex
 use Prim.Native.Nat.{ℕ, zero, suc, _≤_, _<_}
 use native.Mathlib.Decide.{ℕ-discrete, decLt}
 use native.Mathlib.Omega.{arith}
+use mathlib.Core.Path.{_≡_}
 use mathlib.Core.Logic.{_≢_}
 use mathlib.Core.List.{List}
 use lib.IntN.{pos}
@@ -61,3 +63,13 @@ turns-convex cs left e c h k x y =
       | no w ↦ let last = next-last (length cs) e (omega arith) in
           rw last (left-turn cs e 0 c (left 0 c e (omega arith) (omega arith) h))
     ]
+
+-- `from` tells which corner of cs the i-th corner of ds is
+pub convex-part : (cs ds : List Corner) (from : ℕ → ℕ)
+    → ((i j : ℕ) → i < j → from i < from j)
+    → ((i : ℕ) → i < length ds → from i < length cs)
+    → ((i : ℕ) → corner ds i ≡ corner cs (from i))
+    → StrictlyConvex cs → StrictlyConvex ds
+convex-part cs ds from rises known same convex =
+    turns-convex ds λ i j l a b c. rw (same i, same j, same l)
+    (convex-turns cs convex (from i) (from j) (from l) (rises i j a) (rises j l b) (known l c))

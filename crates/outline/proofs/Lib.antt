@@ -7,3 +7,4 @@ pub mod Acceptance
 pub mod LeftTurns
 pub mod HeldLaws
 pub mod RefusalLaws
+pub mod ReadingLaws

@@ -1,5 +1,5 @@
 -- The check of each rank fails exactly where a fault of that rank applies, and with that fault.
---     stage                        the check of a rank; beyond the last it passes
+--     stages, stage                the checks by rank; beyond the last rank a check passes
 --     check-stages                 `check` makes the checks of the ranks in order
 --     stage-failed, stage-fails    a fault that the check of a rank finds has that rank and applies; a fault that applies is found
 --     outOfRange-passed, notLeft-passed    what holds of all corners where these checks pass
@@ -22,13 +22,13 @@ use Rattle.outline.specs.declared.Fault.{Fault}
 use Rattle.outline.specs.declared.Fault.the-variants.{OddLength, TooFewCorners, TooManyCorners, OutOfRange, Repeated, NotLeft, NoSuchCorner, WrongLength}
 use Rattle.outline.specs.declared.Check.{Check}
 use Rattle.outline.specs.declared.Check.the-variants.{Passed, Failed}
-use Rattle.outline.specs.Corners.{corners, corner, next, most}
-use Rattle.outline.specs.Convex.{StrictlyConvex}
-use Rattle.outline.specs.Checks.{_orElse_, each}
+use Rattle.outline.specs.Corners.{corners, corner, next, fewest, most}
+use Rattle.outline.specs.Convex.{AllInRange, StrictlyConvex}
+use Rattle.outline.specs.Checks.{each}
 use Rattle.outline.specs.Reading.{oddLength, tooFew, tooMany, outOfRange, repeated, isNotLeft, notLeftOf, notLeft, check}
 use Rattle.outline.specs.Applies.{Lowest, NotLeftOf, Applies, rank}
-use Rattle.outline.proofs.First.{FailsWhere, each-none, each-lowest, failIf-failed, test-fails, test-lowest}
-use Rattle.outline.proofs.ChecksLaws.{passed≢failed}
+use Rattle.outline.proofs.First.{FailsWhere, each-none, each-lowest, test-fails, test-lowest}
+use Rattle.outline.proofs.ChecksLaws.{passed≢failed, failIf-failed}
 
 abbrev pub stages : List ℤ → List Check
 stages s =
@@ -37,7 +37,7 @@ stages s =
 abbrev pub stage : List ℤ → ℕ → Check
 stage s k = getD (stages s) k Passed
 
-pub check-stages : (s : List ℤ) → check s ≡ each (stage s) 6
+pub check-stages : (s : List ℤ) → check s ≡ each (stage s) (length (stages s))
 unfolding check each
 check-stages s = refl
 
@@ -68,7 +68,7 @@ module _ (cs : List Corner) where
   unfolding outOfRange
   outOfRange-failed = test-lowest _ outOfRange-true OutOfRange n
 
-  pub outOfRange-passed : outOfRange cs ≡ Passed → (i : ℕ) → i < n → InRange (corner cs i)
+  pub outOfRange-passed : outOfRange cs ≡ Passed → AllInRange cs
   unfolding outOfRange
   outOfRange-passed passes i below =
       test-stable (inRange (corner cs i)) (inRange-true (corner cs i))
@@ -117,7 +117,7 @@ module _ (s : List ℤ) where
   oddLength-failed = failIf-failed _ (test-eqb (length s % 2) 1) OddLength
 
   tooFew-failed : (f : Fault) → (tooFew (corners s) ≡ Failed f) ↔ ((TooFewCorners ≡ f) × Applies s TooFewCorners)
-  tooFew-failed = failIf-failed _ (test-ltb (length (corners s)) 3) TooFewCorners
+  tooFew-failed = failIf-failed _ (test-ltb (length (corners s)) fewest) TooFewCorners
 
   tooMany-failed : (f : Fault) → (tooMany (corners s) ≡ Failed f) ↔ ((TooManyCorners ≡ f) × Applies s TooManyCorners)
   tooMany-failed = failIf-failed _ (test-ltb most (length (corners s))) TooManyCorners

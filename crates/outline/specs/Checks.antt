@@ -1,7 +1,8 @@
 -- Checks made in order, of which the first that fails stands.
 --     failIf      a check that fails where a test holds
 --     _orElse_    the first check, or the second where the first passes
---     each        a check at 0, 1, .. , n of them
+--     each        the checks at 0, 1, .. below n
+--     ifPassed    one value where a check passes, another where it fails
 use Prim.Native.Nat.{ℕ, zero, suc}
 use mathlib.Core.Bool.{Bool, true, false}
 use Rattle.outline.specs.declared.Fault.{Fault}
@@ -21,7 +22,6 @@ unfoldable pub each : (ℕ → Check) → ℕ → Check
 each check zero = Passed
 each check (suc n) = each check n orElse check n
 
--- the first where a check passes, the second where it fails
 abbrev pub ifPassed : {A : Type 0} → Check → A → A → A
 ifPassed Passed a b = a
 ifPassed (Failed f) a b = b

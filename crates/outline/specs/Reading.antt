@@ -13,9 +13,7 @@ use Rattle.plane.specs.Range.{inRange}
 use Rattle.plane.specs.Vector.{side, same}
 use Rattle.outline.specs.declared.Fault.the-variants.{OddLength, TooFewCorners, TooManyCorners, OutOfRange, Repeated, NotLeft}
 use Rattle.outline.specs.declared.Check.{Check}
-use Rattle.outline.specs.declared.Check.the-variants.{Passed, Failed}
 use Rattle.outline.specs.declared.RefusedSide.{RefusedSide}
-use Rattle.outline.specs.declared.Outline.{Outline}
 use Rattle.outline.specs.declared.Reading.{Reading}
 use Rattle.outline.specs.Corners.{corners, corner, next, held, fewest, most}
 use Rattle.outline.specs.Refusal.{verdict}

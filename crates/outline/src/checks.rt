@@ -111,10 +111,10 @@ fn check_edge(s: &[i32], e: usize) -> Check
     ensures { λ r. ⌜ r ≡ notLeftOf (corners (now (s .entry))) e ⌝ }
 {
     let n = count(s);
-    let taken = take_edge(s, e);
+    let edge = take_edge(s, e);
     let mut c = 0;
     while c < n {
-        if is_not_left(taken, c, corner(s, c)) {
+        if is_not_left(edge, c, corner(s, c)) {
             return Check::Failed(Fault::NotLeft(e, c));
         }
         c += 1;

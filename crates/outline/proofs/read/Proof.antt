@@ -18,10 +18,10 @@ use Rattle.outline.proofs.Acceptance.{accepted}
 use Rattle.outline.proofs.read.Statement.{statement}
 use Rattle.outline.proofs.read.Tie as tie
 
-reading-is : (side : RefusedSide) (s : List ℤ) {c : Check} {o : Verdict} {l : Outline} → check s ≡ c → o ≡ verdict side c
-    → l ≡ ifPassed c (held (corners s)) (held []) → _≡_ {A = Reading} (record { verdict = o; outline = l }) (reading side s)
-reading-is side s found ends reads = λ i. record {
-  verdict = (ends ∙ ap (verdict side) (sym found)) i;
+reading-is : (whose : RefusedSide) (s : List ℤ) {c : Check} {o : Verdict} {l : Outline} → check s ≡ c → o ≡ verdict whose c
+    → l ≡ ifPassed c (held (corners s)) (held []) → _≡_ {A = Reading} (record { verdict = o; outline = l }) (reading whose s)
+reading-is whose s found ends reads = λ i. record {
+  verdict = (ends ∙ ap (verdict whose) (sym found)) i;
   outline = (reads ∙ ap (λ (c : Check). ifPassed c (held (corners s)) (held [])) (sym found)) i;
 }
 
@@ -54,7 +54,8 @@ returns c =
 returns-2 : tie.Need-returns-2
 unfolding corners
 returns-2 c =
-    reading-is _ _ (sym (c .before .before .before .before .before .before .check .ensures) ∙ c .before .before .before .before .f .given .1)
+    reading-is _ _
+    (sym (c .before .before .before .before .before .before .check .ensures) ∙ c .before .before .before .before .f .given .1)
     (ap Refused (c .before .before .refusal .ensures)) (c .hold2 .ensures)
 
 pub read-spec : {M : Type 1} → statement M

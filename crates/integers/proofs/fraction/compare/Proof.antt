@@ -58,7 +58,9 @@ returns c =
 returns-2 : tie.Need-returns-2
 returns-2 c =
     c .compare-numbers2 .ensures
-    ∙ decided _ _ Equal (c .before .before .before .before .before .before .before .before .before .before .pre) (c .before .before .before .before .before .before .before .compare-numbers .ensures) (c .before .before .before .before .before .enum-told2 .given .1)
+    ∙ decided _ _ Equal (c .before .before .before .before .before .before .before .before .before .before .pre)
+    (c .before .before .before .before .before .before .before .compare-numbers .ensures)
+    (c .before .before .before .before .before .enum-told2 .given .1)
 
 returns-3 : tie.Need-returns-3
 returns-3 c =

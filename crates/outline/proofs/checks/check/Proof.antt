@@ -1,13 +1,9 @@
 -- `outline::checks::check` makes the checks in order.
 use borrow.Author.Needs.{needs}
-use mathlib.Core.List.{List}
-use mathlib.Core.Path.{_≡_, sym, ap, _∙_}
-use lib.IntN.{ℤ}
-use Rattle.outline.specs.declared.Check.{Check}
-use Rattle.outline.specs.Checks.{_orElse_}
+use mathlib.Core.Path.{sym, _∙_}
 use Rattle.outline.specs.Corners.{corners}
-use Rattle.outline.specs.Reading.{oddLength, tooFew, tooMany, outOfRange, repeated, notLeft, check}
-use Rattle.outline.proofs.ChecksLaws.{stop, pass}
+use Rattle.outline.specs.Reading.{repeated, check}
+use Rattle.outline.proofs.ChecksLaws.{orElse-stops, orElse-goes-on}
 use Rattle.outline.proofs.Stages.{outOfRange-passed}
 use Rattle.outline.proofs.checks.check.Statement.{statement}
 use Rattle.outline.proofs.checks.check.Tie as tie
@@ -20,7 +16,8 @@ enum-known-f c = search needs
 
 returns : tie.Need-returns
 unfolding check
-returns c = sym (stop _ (stop _ (stop _ (sym (c .before .before .before .check-count .ensures) ∙ c .before .f .given .1))))
+returns c =
+    sym (orElse-stops _ (orElse-stops _ (orElse-stops _ (sym (c .before .before .before .check-count .ensures) ∙ c .before .f .given .1))))
 
 enum-told : tie.Need-enum-told
 enum-told c = search needs
@@ -34,8 +31,10 @@ enum-known-f-2 c = search needs
 returns-2 : tie.Need-returns-2
 unfolding check
 returns-2 c =
-    let count = sym (c .before .before .before .before .before .before .check-count .ensures) ∙ c .before .before .before .before .enum-told .given .1 in
-    sym (stop _ (stop _ (pass count (sym (c .before .before .before .check-range .ensures) ∙ c .before .f2 .given .1))))
+    let count = sym (c .before .before .before .before .before .before .check-count .ensures)
+    ∙ c .before .before .before .before .enum-told .given .1 in
+    sym
+    (orElse-stops _ (orElse-stops _ (orElse-goes-on count (sym (c .before .before .before .check-range .ensures) ∙ c .before .f2 .given .1))))
 
 enum-told-2 : tie.Need-enum-told-2
 enum-told-2 c = search needs
@@ -49,9 +48,12 @@ enum-known-f-3 c = search needs
 returns-3 : tie.Need-returns-3
 unfolding check
 returns-3 c =
-    let count = sym (c .before .before .before .before .before .before .before .before .before .check-count .ensures) ∙ c .before .before .before .before .before .before .before .enum-told .given .1 in
-    let range = sym (c .before .before .before .before .before .before .check-range .ensures) ∙ c .before .before .before .before .enum-told2 .given .1 in
-    sym (stop _ (pass (pass count range) (sym (c .before .before .before .check-repeated .ensures) ∙ c .before .f3 .given .1)))
+    let count = sym (c .before .before .before .before .before .before .before .before .before .check-count .ensures)
+    ∙ c .before .before .before .before .before .before .before .enum-told .given .1 in
+    let range = sym (c .before .before .before .before .before .before .check-range .ensures)
+    ∙ c .before .before .before .before .enum-told2 .given .1 in
+    sym (orElse-stops _
+    (orElse-goes-on (orElse-goes-on count range) (sym (c .before .before .before .check-repeated .ensures) ∙ c .before .f3 .given .1)))
 
 enum-told-3 : tie.Need-enum-told-3
 enum-told-3 c = search needs
@@ -64,10 +66,12 @@ check-convex-requires c κs =
 returns-4 : tie.Need-returns-4
 unfolding check
 returns-4 c =
-    let count = sym (c .before .before .before .before .before .before .before .before .before .check-count .ensures) ∙ c .before .before .before .before .before .before .before .enum-told .given .1 in
-    let range = sym (c .before .before .before .before .before .before .check-range .ensures) ∙ c .before .before .before .before .enum-told2 .given .1 in
+    let count = sym (c .before .before .before .before .before .before .before .before .before .check-count .ensures)
+    ∙ c .before .before .before .before .before .before .before .enum-told .given .1 in
+    let range = sym (c .before .before .before .before .before .before .check-range .ensures)
+    ∙ c .before .before .before .before .enum-told2 .given .1 in
     let repeated = sym (c .before .before .before .check-repeated .ensures) ∙ c .before .enum-told3 .given .1 in
-    sym (pass (pass (pass count range) repeated) (sym (c .check-convex .ensures)))
+    sym (orElse-goes-on (orElse-goes-on (orElse-goes-on count range) repeated) (sym (c .check-convex .ensures)))
 
 pub check-spec : {M : Type 1} → statement M
 check-spec =

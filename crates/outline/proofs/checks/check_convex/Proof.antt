@@ -1,6 +1,5 @@
 -- `outline::checks::check_convex` checks the edges in order.
 use borrow.Author.Needs.{needs}
-use mathlib.Core.Path.{sym, _∙_}
 use native.Mathlib.Omega.{arith}
 use Prim.Native.Nat.{_-_}
 use lib.ListN.{length}
@@ -32,7 +31,7 @@ returns : tie.Need-returns Inv-loop μ-loop
 unfolding notLeft
 returns c =
     scan-found (c .before .before .before .before .before .loop .inv) (omega arith)
-    (sym (c .before .before .before .check-edge .ensures) ∙ c .before .f .given .1)
+    (cc)
 
 enum-told : tie.Need-enum-told Inv-loop μ-loop
 enum-told c = search needs
@@ -46,7 +45,7 @@ loop-less c = omega arith
 loop-again : tie.Need-loop-again Inv-loop μ-loop
 loop-again c =
     scan-on (c .before .before .before .before .loop .inv) (omega arith)
-    (sym (c .before .before .check-edge .ensures) ∙ c .enum-told .given .1)
+    (cc)
 
 returns-2 : tie.Need-returns-2 Inv-loop μ-loop
 unfolding notLeft

@@ -1,33 +1,19 @@
 -- `outline::checks::check_range` tests the corners in order.
 use borrow.Author.Needs.{needs}
-use mathlib.Core.Bool.{Bool, not}
-use mathlib.Core.Path.{_≡_, sym, ap, _∙_}
-use mathlib.Core.List.{List}
+use mathlib.Core.Bool.{not}
 use native.Mathlib.Omega.{arith}
-use Prim.Native.Nat.{ℕ, _-_}
-use lib.IntN.{ℤ}
+use Prim.Native.Nat.{_-_}
 use lib.ListN.{length}
-use Rattle.plane.specs.declared.Corner.{Corner}
 use Rattle.plane.specs.Range.{inRange}
-use Rattle.outline.specs.declared.Check.{Check}
 use Rattle.outline.specs.declared.Fault.the-variants.{OutOfRange}
-use Rattle.outline.specs.Checks.{failIf}
 use Rattle.outline.specs.Corners.{corners, corner}
 use Rattle.outline.specs.Reading.{outOfRange}
-use Rattle.outline.proofs.ChecksLaws.{Scanning, scan-start, scan-on, scan-found, scan-none}
+use Rattle.outline.proofs.ChecksLaws.{Testing, test-start, test-on, test-found, test-none}
 use Rattle.outline.proofs.checks.check_range.Statement.{statement}
 use Rattle.outline.proofs.checks.check_range.Tie as tie
 
-abbrev at : List ℤ → ℕ → Check
-at s i = failIf (not (inRange (corner (corners s) i))) (OutOfRange i)
-
--- the check at i is decided by what `in_range` answers of the corner that was read there
-decided : (s : List ℤ) (i : ℕ) {p : Corner} {r t : Bool} → p ≡ corner (corners s) i → r ≡ inRange p → not r ≡ t
-    → at s i ≡ failIf t (OutOfRange i)
-decided s i read answer tested = ap (λ (b : Bool). failIf b (OutOfRange i)) (ap not (sym (answer ∙ ap inRange read)) ∙ tested)
-
 abbrev Inv-loop : tie.InvT-loop
-Inv-loop s n i₀ i = Scanning (at s) (length (corners s)) i
+Inv-loop s n i₀ i = Testing (λ j. not (inRange (corner (corners s) j))) OutOfRange (length (corners s)) i
 
 abbrev μ-loop : tie.MeasureT-loop
 μ-loop s n i₀ i = n - i
@@ -36,7 +22,7 @@ count-requires : tie.Need-count-requires Inv-loop μ-loop
 count-requires c κs = search needs
 
 loop-holds : tie.Need-loop-holds Inv-loop μ-loop
-loop-holds c = scan-start _ _
+loop-holds c = test-start _ _ _
 
 corner-requires : tie.Need-corner-requires Inv-loop μ-loop
 corner-requires c κs = omega arith
@@ -44,16 +30,9 @@ corner-requires c κs = omega arith
 in-range-requires : tie.Need-in-range-requires Inv-loop μ-loop
 in-range-requires c κs = search needs
 
--- the check of this turn is decided by the call's answer
-answered : (c : tie.After-in-range Inv-loop μ-loop) {t : Bool} → not (c .in-range .result) ≡ t
-    → at (c .before .before .before .before .before .args .s .now) (c .before .before .before .loop .i)
-    ≡ failIf t (OutOfRange (c .before .before .before .loop .i))
-answered c tested =
-    decided _ _ (c .before .corner .ensures) (c .in-range .ensures) tested
-
 returns : tie.Need-returns Inv-loop μ-loop
 unfolding outOfRange
-returns c = scan-found (c .before .before .before .before .loop .inv) (omega arith) (answered (c .before) (c .if1 .taken))
+returns c = test-found (c .before .before .before .before .loop .inv) (omega arith) (cc)
 
 add-i : tie.Need-add-i Inv-loop μ-loop
 add-i c = omega arith
@@ -62,11 +41,11 @@ loop-less : tie.Need-loop-less Inv-loop μ-loop
 loop-less c = omega arith
 
 loop-again : tie.Need-loop-again Inv-loop μ-loop
-loop-again c = scan-on (c .before .before .before .before .loop .inv) (omega arith) (answered (c .before) (c .if1 .left))
+loop-again c = test-on (c .before .before .before .before .loop .inv) (omega arith) (cc)
 
 returns-2 : tie.Need-returns-2 Inv-loop μ-loop
 unfolding outOfRange
-returns-2 c = scan-none (c .before .loop .inv) (omega arith)
+returns-2 c = test-none (c .before .loop .inv) (omega arith)
 
 pub check-range-spec : {M : Type 1} → statement M
 check-range-spec =

@@ -4,17 +4,10 @@ use mir.Facts.{toZ-ofZ}
 use mir.Val.{SFits}
 use borrow.Author.Tests.{eq-eqb, ne-eqb}
 use mathlib.Core.Bool.{Bool, false, not, _&&_}
-use mathlib.Core.Path.{_≡_, ap, _∙_}
+use mathlib.Core.Path.{_≡_}
 use Prim.Native.Nat.{ℕ}
 use lib.Dec.{eqb}
-use lib.IntN.{ℤ, pos}
-use lib.Signed.{leZ}
 use mir.Syntax.{w64}
-use Rattle.integers.proofs.Machine.{i64, stored}
-use Rattle.plane.specs.declared.Corner.{Corner}
-use Rattle.plane.specs.declared.Vector.{Vector}
-use Rattle.plane.specs.Range.{InRange, Span, reach}
-use Rattle.plane.specs.Vector.{_⇀_, cross}
 use Rattle.plane.proofs.Range.{span-difference}
 use Rattle.outline.proofs.checks.is_not_left.Statement.{statement}
 use Rattle.outline.proofs.checks.is_not_left.Tie as tie

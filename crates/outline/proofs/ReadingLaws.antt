@@ -1,0 +1,49 @@
+-- What reading answers, as callers see it.
+--     reading-taken      the list is taken exactly where its length is even and it gives an accepted outline
+--     reading-refused    it is refused for a fault exactly where the fault applies and none before it does
+--     reading-count, reading-corner    of a list that is taken: the count is half its length; corner i is numbers 2 i and 2 i + 1
+use Prim.Native.Nat.{ℕ, _+_, _*_, _/_, _%_, _<_}
+use mathlib.Core.Path.{_≡_, ap, _∙_}
+use mathlib.Core.Logic.{_↔_, Iff·trans}
+use mathlib.Core.List.{List, []}
+use lib.IntN.{ℤ, pos}
+use lib.ListN.{length, getD}
+use Rattle.outline.specs.declared.Check.{Check}
+use Rattle.outline.specs.declared.Fault.{Fault}
+use Rattle.outline.specs.declared.Outline.{Outline}
+use Rattle.outline.specs.declared.RefusedSide.{RefusedSide}
+use Rattle.outline.specs.declared.Verdict.the-variants.{Taken, Refused}
+use Rattle.outline.specs.Applies.{Applies, rank}
+use Rattle.outline.specs.Checks.{ifPassed}
+use Rattle.outline.specs.Convex.{Accepted}
+use Rattle.outline.specs.Corners.{corners, corner, held}
+use Rattle.outline.specs.Reading.{check, reading}
+use Rattle.outline.specs.Refusal.{refusal}
+use Rattle.outline.proofs.Acceptance.{accepted, first-stands}
+use Rattle.outline.proofs.CornersLaws.{length-corners, corner-at}
+use Rattle.outline.proofs.HeldLaws.{held-corner}
+use Rattle.outline.proofs.RefusalLaws.{verdict-taken, verdict-refused}
+
+module _ (whose : RefusedSide) (s : List ℤ) where
+  pub reading-taken : (reading whose s .verdict ≡ Taken) ↔ ((length s % 2 ≡ 0) × Accepted (corners s))
+  reading-taken = Iff·trans (verdict-taken whose (check s)) (accepted s)
+
+  pub reading-refused : (f : Fault)
+      → (reading whose s .verdict ≡ Refused (refusal whose f)) ↔ (Applies s f × ((g : Fault) → rank g < rank f → ¬ Applies s g))
+  reading-refused f = Iff·trans (verdict-refused whose (check s) f) (first-stands s f)
+
+  module _ (taken : reading whose s .verdict ≡ Taken) where
+    reading-holds : reading whose s .outline ≡ held (corners s)
+    reading-holds =
+        ap (λ (c : Check). ifPassed c (held (corners s)) (held [])) (verdict-taken whose (check s) .0 taken)
+
+    pub reading-count : reading whose s .outline .count ≡ length s / 2
+    unfolding held
+    reading-count = ap (λ (o : Outline). o .count) reading-holds ∙ length-corners s
+
+    pub reading-corner : (i : ℕ) → i < length s / 2
+        → corner (reading whose s .outline .corners) i ≡ record { x = getD s (2 * i) (pos 0); y = getD s (2 * i + 1) (pos 0) }
+    reading-corner i below =
+        ap (λ (o : Outline). corner (o .corners) i) reading-holds
+        ∙ held-corner (corners s) i (rw length-corners below)
+        ∙ corner-at s i (rw length-corners below)
