@@ -1,5 +1,5 @@
-// The lines of the program: a name, then `taken` or `refused` with document 01's number and place, then the corners of an outline
-// that was read or the list that was lent to a removal.
+// The lines of the program: a name, then `taken` or `refused` with document 01's number and place, then how many corners
+// were read, or the list that was lent to a removal.
 use crate::print;
 use outline::Place;
 use outline::Refusal;

@@ -18,24 +18,6 @@ pub struct Outline {
     pub corners: [Corner; MOST],
 }
 
-// What is wrong with what a call was handed, with its place. `specs/Refusal.antt` has document 01's number for each.
-pub enum Fault {
-    OddLength,
-    TooFewCorners,
-    TooManyCorners,
-    OutOfRange(usize),
-    Repeated(usize),
-    NotLeft(usize, usize),
-    NoSuchCorner,
-    WrongLength,
-}
-
-// What one check finds.
-pub enum Check {
-    Passed,
-    Failed(Fault),
-}
-
 // The side of a refusal: none in a call with one outline.
 pub enum RefusedSide {
     NoSide,
@@ -67,6 +49,24 @@ pub enum Verdict {
 pub struct Reading {
     pub verdict: Verdict,
     pub outline: Outline,
+}
+
+// What is wrong with what a call was handed, as the checks find it. `specs/Refusal.antt` has document 01's number and place for each.
+pub enum Fault {
+    OddLength,
+    TooFewCorners,
+    TooManyCorners,
+    OutOfRange(usize),
+    Repeated(usize),
+    NotLeft(usize, usize),
+    NoSuchCorner,
+    WrongLength,
+}
+
+// What one check finds.
+pub enum Check {
+    Passed,
+    Failed(Fault),
 }
 
 // Reads the outline that a list gives. A refusal names the side `whose`.

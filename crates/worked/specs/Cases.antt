@@ -1,4 +1,4 @@
--- The marked examples of document 01, and what each claims.
+-- The marked examples of document 01 and a few more, and what each claims.
 --     Case     a call, what it is handed, and what it answers
 --     Holds    the definitions say so
 --     cases    the examples
