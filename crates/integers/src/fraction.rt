@@ -15,7 +15,6 @@ pub enum Order {
     Greater,
 }
 
-// The order of two numbers.
 fn compare_numbers(x: u64, y: u64) -> Order
     ensures { λ r. ⌜ r ≡ order x y ⌝ }
 {

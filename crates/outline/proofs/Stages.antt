@@ -110,8 +110,8 @@ module _ (cs : List Corner) where
 -- ---- all ranks
 module _ (s : List ℤ) where
   -- the fault that a check names is the one that it found
-  carry : {f g : Fault} → (f ≡ g) × Applies s f → (rank g ≡ rank f) × Applies s g
-  carry {f} (e, applies) = subst (λ (g : Fault). (rank g ≡ rank f) × Applies s g) e (refl, applies)
+  applies-as : {f g : Fault} → (f ≡ g) × Applies s f → (rank g ≡ rank f) × Applies s g
+  applies-as {f} (e, applies) = subst (λ (g : Fault). (rank g ≡ rank f) × Applies s g) e (refl, applies)
 
   oddLength-failed : (f : Fault) → (oddLength s ≡ Failed f) ↔ ((OddLength ≡ f) × Applies s OddLength)
   oddLength-failed = failIf-failed _ (test-eqb (length s % 2) 1) OddLength
@@ -123,15 +123,15 @@ module _ (s : List ℤ) where
   tooMany-failed = failIf-failed _ (test-ltb most (length (corners s))) TooManyCorners
 
   pub stage-failed : (k : ℕ) (f : Fault) → stage s k ≡ Failed f → (rank f ≡ k) × Applies s f
-  stage-failed zero f e = carry (oddLength-failed f .0 e)
-  stage-failed (suc zero) f e = carry (tooFew-failed f .0 e)
-  stage-failed (suc (suc zero)) f e = carry (tooMany-failed f .0 e)
-  stage-failed (suc (suc (suc zero))) f e = let (i, is-f, low) = outOfRange-failed (corners s) f .0 e in carry (is-f, low)
-  stage-failed (suc (suc (suc (suc zero)))) f e = let (i, is-f, low) = repeated-failed (corners s) f .0 e in carry (is-f, low)
+  stage-failed zero f e = applies-as (oddLength-failed f .0 e)
+  stage-failed (suc zero) f e = applies-as (tooFew-failed f .0 e)
+  stage-failed (suc (suc zero)) f e = applies-as (tooMany-failed f .0 e)
+  stage-failed (suc (suc (suc zero))) f e = let (i, is-f, low) = outOfRange-failed (corners s) f .0 e in applies-as (is-f, low)
+  stage-failed (suc (suc (suc (suc zero)))) f e = let (i, is-f, low) = repeated-failed (corners s) f .0 e in applies-as (is-f, low)
   stage-failed (suc (suc (suc (suc (suc zero))))) f e =
       let (i, fails, low-edge) = notLeft-failed (corners s) f .0 e in
       let (c, is-f, low) = notLeftOf-failed (corners s) i f .0 fails in
-      carry (is-f, (low-edge, low))
+      applies-as (is-f, (low-edge, low))
   stage-failed (suc (suc (suc (suc (suc (suc k)))))) f e = absurd (passed≢failed refl e)
 
   pub stage-fails : (f : Fault) → Applies s f → stage s (rank f) ≡ Failed f

@@ -1,6 +1,7 @@
 -- An edge, taken out of a list of corners once for all corners that are tested against it.
 --     edgeOf         the edge with a number
 --     isNotLeftOf    corner c, at v, is no end of the edge and not strictly left of it
+-- For the code alone: `isNotLeft` in `Reading.antt` says the same of a list and two numbers, in document 01's words.
 use Prim.Native.Nat.{ℕ}
 use mathlib.Core.Bool.{Bool, not, _&&_}
 use mathlib.Core.List.{List}
@@ -22,7 +23,7 @@ edgeOf cs e = record {
   run = corner cs e ⇀ corner cs (next (length cs) e);
 }
 
--- the side number is that of v against the edge
+-- with the side number of v against the edge
 abbrev pub isNotLeftOf : Edge → ℕ → Corner → Bool
 isNotLeftOf edge c v =
     not (eqb c (edge .start))

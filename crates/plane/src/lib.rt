@@ -40,7 +40,6 @@ pub fn side(edge: Vector, to: Vector) -> i64
     edge.x * to.y - edge.y * to.x
 }
 
-// The dot product.
 pub fn dot(a: Vector, b: Vector) -> i64
     requires { ⌜ Span reach a ⌝ }
     requires { ⌜ Span reach b ⌝ }
@@ -49,7 +48,6 @@ pub fn dot(a: Vector, b: Vector) -> i64
     a.x * b.x + a.y * b.y
 }
 
-// The squared length of a vector.
 pub fn squared_length(a: Vector) -> i64
     requires { ⌜ Span reach a ⌝ }
     ensures { λ r. ⌜ r ≡ dot a a ⌝ }
