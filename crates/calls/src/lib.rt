@@ -1,13 +1,17 @@
 // The public calls. Each may be handed any list of any numbers: it does its own checking and has no `requires`.
+use nearest::Answer;
 use outline::Check;
+use outline::Fault;
 use outline::Reading;
 use outline::RefusedSide;
 use outline::Verdict;
 use outline::refusals;
+use plane::Corner;
 ghost use mathlib.Core.Path.{_≡_};
 ghost use Rattle.outline.specs.declared.RefusedSide.the-variants.{NoSide};
 ghost use Rattle.outline.specs.Reading.{reading};
 ghost use Rattle.edit.specs.Removal.{removalVerdict, listAfter};
+ghost use Rattle.nearest.specs.Call.{nearestAnswer};
 
 // Reads the outline that the list `s` gives: x and y of corner 0, then of corner 1, and so on.
 // Refusals 1 to 6; the outline read then has no corners.
@@ -28,4 +32,20 @@ pub fn remove_corner(s: &[i32], k: usize, out: &mut [i32]) -> Verdict
     }
     edit::write_without(s, k, out);
     Verdict::Taken
+}
+
+// Finds the nearest point, to the point v, of the outline that the list `s` gives.
+// Refusals 1 to 6 for the outline, then 7.
+pub fn nearest_point(v: Corner, s: &[i32]) -> Answer
+    ensures { λ r. ⌜ r ≡ nearestAnswer v (now (s .entry)) ⌝ }
+{
+    let reading = outline::read(s, RefusedSide::NoSide);
+    let verdict = reading.verdict;
+    if let Verdict::Refused(refusal) = verdict {
+        return Answer::Refused(refusal);
+    }
+    if !plane::in_range(v) {
+        return Answer::Refused(refusals::refusal(RefusedSide::NoSide, Fault::PointOutOfRange));
+    }
+    Answer::Found(nearest::nearest(reading.outline, v))
 }

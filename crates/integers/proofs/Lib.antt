@@ -1,7 +1,8 @@
--- Whole numbers, for the proofs of every crate: laws of the ring and the order, two tools that prove by computation,
--- tests and what they mean, bounds on machine arithmetic, and exact fractions.
+-- Whole numbers, for the proofs of every crate: laws of the ring and the order, the greatest of finitely many, two tools that prove
+-- by computation, tests and what they mean, bounds on machine arithmetic, and exact fractions.
 pub mod Ring
 pub mod Order
+pub mod Greatest
 pub mod Polynomial
 pub mod Certificate
 pub mod Reflect

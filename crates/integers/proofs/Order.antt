@@ -8,6 +8,7 @@
 --   ≤ℤ-sub <ℤ-sub sub-≤ℤ sub-<ℤ             an order is the sign of the difference
 --   +ℤ-mono-≤ +ℤ-mono-<-≤ +ℤ-mono-≤-<       sums keep the order
 --   *ℤ-nonneg *ℤ-pos square-nonneg          signs of products
+--   natAbs-nonneg                           a number that is not negative is its own size
 -- Any other consequence of orders is one line by `prove` of `Certificate.antt`.
 use mathlib.Core.Path.{_≡_, refl, sym, _∙_, ap, ap₂, subst, subst₂}
 use mathlib.Core.Logic.{_⊎_, inl, inr}
@@ -15,10 +16,10 @@ use mathlib.Core.Bool.{Bool, true, false, not}
 use Prim.Native.Nat.{ℕ, zero, suc, _*_}
 use native.Mathlib.Nat.{le-antisymm, le-of-lt, mul-pos}
 use lib.Dec.{T, leb, ltb, leb→le, le→leb, lt→ltb, ltb→lt, leb·zero, leb·suc-zero, leb·suc-suc}
-use lib.IntN.{ℤ, pos, negsuc, sucℤ, predℤ, negℤ, _+ℤ_, _-ℤ_, _*ℤ_}
+use lib.IntN.{ℤ, pos, negsuc, sucℤ, predℤ, negℤ, natAbs, _+ℤ_, _-ℤ_, _*ℤ_}
 use lib.IntN.{suc-pred, +ℤ-idl, +ℤ-idr, +ℤ-sucℤ, +ℤ-predℤ, +ℤ-comm, +ℤ-assoc, +ℤ-invr, +ℤ-one, -ℤ-+ℤ-cancel}
 use borrow.Author.Tests.{not-true, not-false}
-use lib.Signed.{leZ, ltZ, _≤ℤ_, _<ℤ_, ≤ℤ-refl, <ℤ-≤ℤ-trans, <ℤ-irrefl}
+use lib.Signed.{leZ, ltZ, _≤ℤ_, _<ℤ_, ≤ℤ-refl, <ℤ-≤ℤ-trans, <ℤ-irrefl, yes-nonNeg, pos-natAbs}
 use Rattle.integers.proofs.Ring.{ℤ-steps}
 
 -- ---- the tests
@@ -185,3 +186,8 @@ pub *ℤ-pos : {a b : ℤ} → pos 0 <ℤ a → pos 0 <ℤ b → pos 0 <ℤ (a *
 pub square-nonneg : (a : ℤ) → pos 0 ≤ℤ (a *ℤ a)
 square-nonneg (pos a) = leZ-true (leb·zero (a * a))
 square-nonneg (negsuc a) = leZ-true (leb·zero (suc a * suc a))
+
+-- ---- sizes
+
+pub natAbs-nonneg : {z : ℤ} → pos 0 ≤ℤ z → pos (natAbs z) ≡ z
+natAbs-nonneg {z} h = pos-natAbs z (yes-nonNeg h)

@@ -16,7 +16,7 @@ use Rattle.plane.specs.declared.Corner.{Corner}
 use Rattle.plane.specs.Vector.{side}
 use Rattle.plane.proofs.Algebra.{side-same}
 use Rattle.outline.specs.declared.Fault.{Fault}
-use Rattle.outline.specs.declared.Fault.the-variants.{OddLength, TooFewCorners, TooManyCorners, OutOfRange, Repeated, NotLeft, NoSuchCorner, WrongLength}
+use Rattle.outline.specs.declared.Fault.the-variants.{OddLength, TooFewCorners, TooManyCorners, OutOfRange, Repeated, NotLeft, PointOutOfRange, NoSuchCorner, WrongLength}
 use Rattle.outline.specs.declared.Check.the-variants.{Passed, Failed}
 use Rattle.outline.specs.Corners.{corners, corner, next}
 use Rattle.outline.specs.Convex.{Accepted}
@@ -79,7 +79,7 @@ accepted s = (there, λ h. none-applies s .1 (none (h .0) (h .1)))
             at-least = omega (arith, none TooFewCorners);
             at-most = omega (arith, none TooManyCorners);
             in-range = outOfRange-passed (corners s) (pass 3 (omega arith));
-            convex = notLeft-passed (corners s) (pass 5 (omega arith));
+            convex = notLeft-passed (corners s) .0 (pass 5 (omega arith));
           },
         )
 
@@ -91,5 +91,6 @@ accepted s = (there, λ h. none-applies s .1 (none (h .0) (h .1)))
     none even ok (Repeated i) applies = accepted-distinct ok i (applies .below) (applies .here)
     none even ok (NotLeft e c) (edge, at) =
         clashℤ (ok .convex e c (edge .below) (at .below) (at .here .not-start) (at .here .not-end)) (at .here .not-left)
+    none even ok PointOutOfRange applies = applies
     none even ok NoSuchCorner applies = applies
     none even ok WrongLength applies = applies

@@ -1,13 +1,15 @@
--- The corners of a list of numbers, and the number of the following corner.
+-- The corners of a list of numbers, and the numbers of the following corner and of the one before.
 --     next-suc, next-last            the corner after i is i + 1, and after the last it is corner 0
---     next-below                     it is a corner of the outline
+--     next-below, previous-below     it is a corner of the outline, and so is the one before
 --     next-other, next-next-other    it is another corner, and the one after it is a third
+--     next-previous, previous-next   after the corner before i comes i, and before the one after it
+--     previous-other, next-not-previous    the corner before is another corner, and not the one after
 --     length-corners                 two numbers to a corner
 --     corners-fit                    all corners lie in the list
 --     corner-at                      document 01: corner i is numbers 2 i and 2 i + 1
 --     length-coordinates, coordinate-x, coordinate-y    the same for corners written as numbers
 --     corners-coordinates            corners written as numbers and read again are the same corners
-use Prim.Native.Nat.{ℕ, zero, suc, _+_, _*_, _/_, _<_, _≤_}
+use Prim.Native.Nat.{ℕ, zero, suc, _+_, _-_, _*_, _/_, _<_, _≤_}
 use mathlib.Core.Path.{_≡_, refl, ap}
 use mathlib.Core.Logic.{_≢_, _⊎_, inl, inr, ⊎-elim}
 use mathlib.Core.Bool.{Bool, true, false}
@@ -19,7 +21,7 @@ use lib.IntN.{ℤ, pos}
 use lib.ListN.{length, getD}
 use Rattle.plane.specs.declared.Corner.{Corner}
 use Rattle.plane.specs.Vector.{coordinates}
-use Rattle.outline.specs.Corners.{corners, corner, next}
+use Rattle.outline.specs.Corners.{corners, corner, next, previous}
 
 module _ (n i : ℕ) where
   pub next-suc : suc i < n → next n i ≡ suc i
@@ -48,6 +50,24 @@ next-next-other n i three = ⊎-elim
     (λ more. ⊎-elim (λ more₂. omega arith) (λ last₂. omega arith) (next-cases n (next n i)))
     (λ last. ⊎-elim (λ more₂. omega arith) (λ last₂. omega arith) (next-cases n (next n i)))
     (next-cases n i)
+
+pub previous-below : (n i : ℕ) → i < n → previous n i < n
+previous-below n zero below = omega arith
+previous-below n (suc i) below = omega arith
+
+pub next-previous : (n i : ℕ) → i < n → next n (previous n i) ≡ i
+next-previous n zero below = next-last n (n - 1) (omega arith)
+next-previous n (suc i) below = next-suc n i below
+
+pub previous-next : (n i : ℕ) → i < n → previous n (next n i) ≡ i
+previous-next n i below = ⊎-elim (λ more. rw (more .1)) (λ last. rw (last .1) (omega arith)) (next-cases n i)
+
+pub previous-other : (n i : ℕ) → 2 ≤ n → previous n i ≢ i
+previous-other n zero two = omega arith
+previous-other n (suc i) two = omega arith
+
+pub next-not-previous : (n i : ℕ) → 3 ≤ n → i < n → next n i ≢ previous n i
+next-not-previous n i three below = rw (next-previous n i below) at (next-next-other n (previous n i) three)
 
 pub length-corners : (s : List ℤ) → length (corners s) ≡ length s / 2
 unfolding corners

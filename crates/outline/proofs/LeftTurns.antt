@@ -1,5 +1,6 @@
 -- Strict convexity without edges: any three corners, in number order, turn left. So a part of a strictly convex list is one.
 --     LeftTurns       any three corners, in number order, turn left
+--     left-turn, left-turn-back    of three corners taken round
 --     convex-turns    so it is in a strictly convex list
 --     turns-convex    and a list in which it is so is strictly convex
 --     convex-part     a list of some corners of a strictly convex list, in their order, is strictly convex
@@ -28,8 +29,11 @@ Left cs i j l = pos 0 <ℤ side (corner cs i) (corner cs j) (corner cs l)
 abbrev pub LeftTurns : List Corner → Type 0
 LeftTurns cs = (i j l : ℕ) → i < j → j < l → l < length cs → Left cs i j l
 
-left-turn : (cs : List Corner) (i j l : ℕ) → Left cs j l i → Left cs i j l
+pub left-turn : (cs : List Corner) (i j l : ℕ) → Left cs j l i → Left cs i j l
 left-turn cs i j l h = rw (side-turn (corner cs i) (corner cs j) (corner cs l)) h
+
+pub left-turn-back : (cs : List Corner) (i j l : ℕ) → Left cs i j l → Left cs j l i
+left-turn-back cs i j l h = left-turn cs j l i (left-turn cs l i j h)
 
 module _ (cs : List Corner) (convex : StrictlyConvex cs) where
   edge : (e c : ℕ) → (suc e < length cs) × (c < length cs) × (c ≢ e) × (c ≢ suc e) → Left cs e (suc e) c
@@ -57,7 +61,7 @@ pub turns-convex : (cs : List Corner) → LeftTurns cs → StrictlyConvex cs
 turns-convex cs left e c h k x y =
     elim (decLt (suc e) (length cs)) [
       | yes w ↦ rw (next-suc (length cs) e w) (elim (decLt c e) [
-        | yes b ↦ left-turn cs e (suc e) c (left-turn cs (suc e) c e (left c e (suc e) b (omega arith) w))
+        | yes b ↦ left-turn-back cs c e (suc e) (left c e (suc e) b (omega arith) w)
         | no b ↦ left e (suc e) c (omega arith) (omega (arith, next-suc (length cs) e w)) k
       ])
       | no w ↦ let last = next-last (length cs) e (omega arith) in

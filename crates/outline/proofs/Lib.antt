@@ -5,6 +5,7 @@ pub mod First
 pub mod Stages
 pub mod Acceptance
 pub mod LeftTurns
+pub mod TurnsLaws
 pub mod HeldLaws
 pub mod RefusalLaws
 pub mod ReadingLaws

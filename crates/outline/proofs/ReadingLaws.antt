@@ -1,7 +1,9 @@
 -- What reading answers, as callers see it.
 --     reading-taken      the list is taken exactly where its length is even and it gives an accepted outline
 --     reading-refused    it is refused for a fault exactly where the fault applies and none before it does
---     reading-count, reading-corner    of a list that is taken: the count is half its length; corner i is numbers 2 i and 2 i + 1
+-- Of a list that is taken:
+--     reading-outline, reading-cornersOf    the value that is read holds an accepted outline, with the corners of the list
+--     reading-count, reading-corner         the count is half its length; corner i is numbers 2 i and 2 i + 1
 use Prim.Native.Nat.{ℕ, _+_, _*_, _/_, _%_, _<_}
 use mathlib.Core.Path.{_≡_, ap, _∙_}
 use mathlib.Core.Logic.{_↔_, Iff·trans}
@@ -15,13 +17,13 @@ use Rattle.outline.specs.declared.RefusedSide.{RefusedSide}
 use Rattle.outline.specs.declared.Verdict.the-variants.{Taken, Refused}
 use Rattle.outline.specs.Applies.{Applies, rank}
 use Rattle.outline.specs.Checks.{ifPassed}
-use Rattle.outline.specs.Convex.{Accepted}
-use Rattle.outline.specs.Corners.{corners, corner, held}
+use Rattle.outline.specs.Convex.{Accepted, IsOutline}
+use Rattle.outline.specs.Corners.{corners, corner, held, cornersOf}
 use Rattle.outline.specs.Reading.{check, reading}
 use Rattle.outline.specs.Refusal.{refusal}
 use Rattle.outline.proofs.Acceptance.{accepted, first-stands}
 use Rattle.outline.proofs.CornersLaws.{length-corners, corner-at}
-use Rattle.outline.proofs.HeldLaws.{held-corner}
+use Rattle.outline.proofs.HeldLaws.{held-corner, cornersOf-held, held-outline}
 use Rattle.outline.proofs.RefusalLaws.{verdict-taken, verdict-refused}
 
 module _ (whose : RefusedSide) (s : List ℤ) where
@@ -36,6 +38,12 @@ module _ (whose : RefusedSide) (s : List ℤ) where
     reading-holds : reading whose s .outline ≡ held (corners s)
     reading-holds =
         ap (λ (c : Check). ifPassed c (held (corners s)) (held [])) (verdict-taken whose (check s) .0 taken)
+
+    pub reading-outline : IsOutline (reading whose s .outline)
+    reading-outline = rw reading-holds (held-outline (corners s) (reading-taken .0 taken .1))
+
+    pub reading-cornersOf : cornersOf (reading whose s .outline) ≡ corners s
+    reading-cornersOf = ap cornersOf reading-holds ∙ cornersOf-held (corners s) (reading-taken .0 taken .1 .at-most)
 
     pub reading-count : reading whose s .outline .count ≡ length s / 2
     unfolding held

@@ -8,7 +8,7 @@ use mathlib.Core.Logic.{_↔_}
 use mathlib.Core.List.{[], _∷_}
 use lib.ListN.{getD}
 use Rattle.outline.specs.declared.Fault.{Fault}
-use Rattle.outline.specs.declared.Fault.the-variants.{OddLength, TooFewCorners, TooManyCorners, OutOfRange, Repeated, NotLeft, NoSuchCorner, WrongLength}
+use Rattle.outline.specs.declared.Fault.the-variants.{OddLength, TooFewCorners, TooManyCorners, OutOfRange, Repeated, NotLeft, PointOutOfRange, NoSuchCorner, WrongLength}
 use Rattle.outline.specs.declared.Check.{Check}
 use Rattle.outline.specs.declared.Check.the-variants.{Passed, Failed}
 use Rattle.outline.specs.declared.Place.{Place}
@@ -29,12 +29,12 @@ second Nowhere = 0
 second (At i) = 0
 second (EdgeAndCorner e c) = c
 
--- the faults by their numbers; 0 and 7 are none
+-- the faults by their numbers; 0 is none
 abbrev faultOf : ℕ → Place → Fault
 faultOf n p =
     getD
     (OddLength ∷ OddLength ∷ TooFewCorners ∷ TooManyCorners ∷ OutOfRange (first p) ∷ Repeated (first p)
-    ∷ NotLeft (first p) (second p) ∷ OddLength ∷ NoSuchCorner ∷ WrongLength ∷ []) n OddLength
+    ∷ NotLeft (first p) (second p) ∷ PointOutOfRange ∷ NoSuchCorner ∷ WrongLength ∷ []) n OddLength
 
 faultOf-refusal : (f : Fault) → faultOf (number f) (place f) ≡ f
 faultOf-refusal OddLength = refl
@@ -43,6 +43,7 @@ faultOf-refusal TooManyCorners = refl
 faultOf-refusal (OutOfRange i) = refl
 faultOf-refusal (Repeated i) = refl
 faultOf-refusal (NotLeft e c) = refl
+faultOf-refusal PointOutOfRange = refl
 faultOf-refusal NoSuchCorner = refl
 faultOf-refusal WrongLength = refl
 

@@ -2,16 +2,17 @@
 --     stages, stage                the checks by rank; beyond the last rank a check passes
 --     check-stages                 `check` makes the checks of the ranks in order
 --     stage-failed, stage-fails    a fault that the check of a rank finds has that rank and applies; a fault that applies is found
---     outOfRange-passed, notLeft-passed    what holds of all corners where these checks pass
+--     outOfRange-passed            where this check passes every corner is in range
+--     notLeft-passed               this check passes exactly where the corners are strictly convex
 use Prim.Native.Nat.{ℕ, zero, suc, _<_, _%_}
 use mathlib.Core.Path.{_≡_, refl, subst}
-use mathlib.Core.Logic.{_↔_, _≢_}
+use mathlib.Core.Logic.{_↔_, Iff·trans, _≢_}
 use mathlib.Core.Bool.{true, not}
 use mathlib.Core.List.{List, [], _∷_}
 use lib.Dec.{eqb}
 use lib.IntN.{ℤ, pos}
 use lib.ListN.{length, getD}
-use lib.Signed.{_≤ℤ_}
+use lib.Signed.{_≤ℤ_, clashℤ}
 use Rattle.integers.proofs.Reflect.{test-not, test-and, test-stable, test-eqb, test-ltb, test-leZ}
 use Rattle.integers.proofs.Order.{≰ℤ-<ℤ}
 use Rattle.plane.specs.declared.Corner.{Corner}
@@ -19,7 +20,7 @@ use Rattle.plane.specs.Range.{InRange, inRange}
 use Rattle.plane.specs.Vector.{side, same}
 use Rattle.plane.proofs.Tests.{inRange-true, same-true}
 use Rattle.outline.specs.declared.Fault.{Fault}
-use Rattle.outline.specs.declared.Fault.the-variants.{OddLength, TooFewCorners, TooManyCorners, OutOfRange, Repeated, NotLeft, NoSuchCorner, WrongLength}
+use Rattle.outline.specs.declared.Fault.the-variants.{OddLength, TooFewCorners, TooManyCorners, OutOfRange, Repeated, NotLeft, PointOutOfRange, NoSuchCorner, WrongLength}
 use Rattle.outline.specs.declared.Check.{Check}
 use Rattle.outline.specs.declared.Check.the-variants.{Passed, Failed}
 use Rattle.outline.specs.Corners.{corners, corner, next, fewest, most}
@@ -101,11 +102,13 @@ module _ (cs : List Corner) where
   unfolding notLeft
   notLeft-failed = each-lowest notLeftOf-fails n
 
-  pub notLeft-passed : notLeft cs ≡ Passed → StrictlyConvex cs
+  pub notLeft-passed : (notLeft cs ≡ Passed) ↔ StrictlyConvex cs
   unfolding notLeft
-  notLeft-passed passes e c e-below c-below not-start not-end =
-      ≰ℤ-<ℤ
-      (λ le. each-none notLeftOf-fails n .0 passes e e-below (c, c-below, record { not-start = not-start; not-end = not-end; not-left = le }))
+  notLeft-passed = Iff·trans (each-none notLeftOf-fails n) (
+    λ none e c e-below c-below not-start not-end.
+        ≰ℤ-<ℤ (λ le. none e e-below (c, c-below, record { not-start = not-start; not-end = not-end; not-left = le })),
+    λ convex e e-below (c, c-below, found). clashℤ (convex e c e-below c-below (found .not-start) (found .not-end)) (found .not-left),
+  )
 
 -- ---- all ranks
 module _ (s : List ℤ) where
@@ -142,5 +145,6 @@ module _ (s : List ℤ) where
   stage-fails (Repeated i) applies = repeated-failed (corners s) (Repeated i) .1 (i, refl, applies)
   stage-fails (NotLeft e c) applies =
       notLeft-failed (corners s) (NotLeft e c) .1 (e, notLeftOf-failed (corners s) e (NotLeft e c) .1 (c, refl, applies .1), applies .0)
+  stage-fails PointOutOfRange applies = absurd applies
   stage-fails NoSuchCorner applies = absurd applies
   stage-fails WrongLength applies = absurd applies

@@ -15,7 +15,7 @@ use Rattle.plane.specs.declared.Corner.{Corner}
 use Rattle.plane.specs.Range.{InRange}
 use Rattle.plane.specs.Vector.{side}
 use Rattle.outline.specs.declared.Fault.{Fault}
-use Rattle.outline.specs.declared.Fault.the-variants.{OddLength, TooFewCorners, TooManyCorners, OutOfRange, Repeated, NotLeft, NoSuchCorner, WrongLength}
+use Rattle.outline.specs.declared.Fault.the-variants.{OddLength, TooFewCorners, TooManyCorners, OutOfRange, Repeated, NotLeft, PointOutOfRange, NoSuchCorner, WrongLength}
 use Rattle.outline.specs.Corners.{corners, corner, next, fewest, most}
 
 pub record Lowest (P : ℕ → Type 0) (n i : ℕ) : Type 0 where
@@ -38,10 +38,11 @@ Applies s (Repeated i) =
 Applies s (NotLeft e c) =
     Lowest (λ f. (d : ℕ) × (d < length (corners s)) × NotLeftOf (corners s) f d) (length (corners s)) e
     × Lowest (NotLeftOf (corners s) e) (length (corners s)) c
+Applies s PointOutOfRange = ⊥
 Applies s NoSuchCorner = ⊥
 Applies s WrongLength = ⊥
 
--- the last two are not for reading
+-- the last three are not for reading
 abbrev pub rank : Fault → ℕ
 rank OddLength = 0
 rank TooFewCorners = 1
@@ -49,5 +50,6 @@ rank TooManyCorners = 2
 rank (OutOfRange i) = 3
 rank (Repeated i) = 4
 rank (NotLeft e c) = 5
+rank PointOutOfRange = 6
 rank NoSuchCorner = 6
 rank WrongLength = 6

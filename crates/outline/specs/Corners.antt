@@ -3,14 +3,16 @@
 --     corner     the corner with a number
 --     next       the number of the following corner; after the last comes corner 0.
 --                Edge i runs from corner i to corner next n i
+--     previous   the number of the corner before; before corner 0 comes the last
 --     fewest, most    how many corners an outline has
 --     held       an outline as one value
-use Prim.Native.Nat.{ℕ, suc, _-_}
+--     cornersOf  the corners of such a value
+use Prim.Native.Nat.{ℕ, zero, suc, _-_}
 use mathlib.Core.Bool.{cond}
 use mathlib.Core.List.{List, [], _∷_, _++_}
 use lib.Dec.{ltb}
 use lib.IntN.{ℤ, pos}
-use lib.ListN.{length, getD, replicate}
+use lib.ListN.{length, getD, replicate, take}
 use Rattle.plane.specs.declared.Corner.{Corner}
 use Rattle.outline.specs.declared.Outline.{Outline}
 
@@ -29,6 +31,10 @@ corner cs i = getD cs i origin
 unfoldable pub next : ℕ → ℕ → ℕ
 next n i = cond (ltb (suc i) n) (suc i) 0
 
+abbrev pub previous : ℕ → ℕ → ℕ
+previous n zero = n - 1
+previous n (suc i) = i
+
 -- an outline has 3 to 256 corners
 abbrev pub fewest : ℕ
 fewest = 3
@@ -39,3 +45,6 @@ most = 256
 -- document 01: its count and places for 256 corners, the unused ones zero
 unfoldable pub held : List Corner → Outline
 held cs = record { count = length cs; corners = cs ++ replicate (most - length cs) origin }
+
+abbrev pub cornersOf : Outline → List Corner
+cornersOf o = take (o .count) (o .corners)

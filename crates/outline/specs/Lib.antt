@@ -4,5 +4,6 @@ pub mod Convex
 pub mod Refusal
 pub mod Checks
 pub mod Edge
+pub mod Turns
 pub mod Reading
 pub mod Applies

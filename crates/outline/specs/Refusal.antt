@@ -4,7 +4,7 @@
 --     verdict          the verdict of a call whose checks found this
 use Prim.Native.Nat.{ℕ}
 use Rattle.outline.specs.declared.Fault.{Fault}
-use Rattle.outline.specs.declared.Fault.the-variants.{OddLength, TooFewCorners, TooManyCorners, OutOfRange, Repeated, NotLeft, NoSuchCorner, WrongLength}
+use Rattle.outline.specs.declared.Fault.the-variants.{OddLength, TooFewCorners, TooManyCorners, OutOfRange, Repeated, NotLeft, PointOutOfRange, NoSuchCorner, WrongLength}
 use Rattle.outline.specs.declared.Check.{Check}
 use Rattle.outline.specs.declared.Check.the-variants.{Passed, Failed}
 use Rattle.outline.specs.declared.RefusedSide.{RefusedSide}
@@ -21,6 +21,7 @@ number TooManyCorners = 3
 number (OutOfRange i) = 4
 number (Repeated i) = 5
 number (NotLeft e c) = 6
+number PointOutOfRange = 7
 number NoSuchCorner = 8
 number WrongLength = 9
 
@@ -31,6 +32,7 @@ place TooManyCorners = Nowhere
 place (OutOfRange i) = At i
 place (Repeated i) = At i
 place (NotLeft e c) = EdgeAndCorner e c
+place PointOutOfRange = Nowhere
 place NoSuchCorner = Nowhere
 place WrongLength = Nowhere
 

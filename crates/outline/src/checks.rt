@@ -16,6 +16,7 @@ ghost use Rattle.outline.specs.Checks.{_orElse_};
 ghost use Rattle.outline.specs.Convex.{AllInRange};
 ghost use Rattle.outline.specs.Corners.{corners};
 ghost use Rattle.outline.specs.Edge.{edgeOf, isNotLeftOf};
+ghost use Rattle.outline.specs.Turns.{isLeft, keepsLeft, isConvex};
 ghost use Rattle.outline.specs.Reading.{oddLength, tooFew, tooMany, outOfRange, repeated, notLeftOf, notLeft, check};
 
 // 1, 2 and 3: the length of the list.
@@ -122,8 +123,8 @@ fn check_edge(s: &[i32], e: usize) -> Check
     Check::Passed
 }
 
-// 6: the first edge that some corner is not strictly left of, and the first such corner.
-fn check_convex(s: &[i32]) -> Check
+// 6, by testing every corner against every edge.
+fn find_not_left(s: &[i32]) -> Check
     requires { ⌜ AllInRange (corners (now s)) ⌝ }
     ensures { λ r. ⌜ r ≡ notLeft (corners (now (s .entry))) ⌝ }
 {
@@ -136,6 +137,68 @@ fn check_convex(s: &[i32]) -> Check
         e += 1;
     }
     Check::Passed
+}
+
+// Whether v is strictly left of the line that starts at `from` and has the differences `run`.
+fn is_left(from: Corner, run: Vector, v: Corner) -> bool
+    requires { ⌜ Span reach run ⌝ }
+    requires { ⌜ InRange from ⌝ }
+    requires { ⌜ InRange v ⌝ }
+    ensures { λ r. ⌜ r ≡ isLeft from run v ⌝ }
+{
+    0 < plane::side(run, plane::difference(from, v))
+}
+
+// Whether v, the corner after p and q, is strictly left of edge 0, which starts at `from`, of the line from there to q, and of p to q.
+fn keeps_left(from: Corner, run: Vector, p: Corner, q: Corner, v: Corner) -> bool
+    requires { ⌜ Span reach run ⌝ }
+    requires { ⌜ InRange from ⌝ }
+    requires { ⌜ InRange p ⌝ }
+    requires { ⌜ InRange q ⌝ }
+    requires { ⌜ InRange v ⌝ }
+    ensures { λ r. ⌜ r ≡ keepsLeft from run p q v ⌝ }
+{
+    if !is_left(from, run, v) {
+        return false;
+    }
+    if !is_left(from, plane::difference(from, q), v) {
+        return false;
+    }
+    is_left(p, plane::difference(p, q), v)
+}
+
+// Whether the corners are strictly convex, in one pass: `check_convex` takes linear time where they are, and every accepted outline is.
+// It is right because any three corners, in number order, turn left where each corner keeps left (`proofs/TurnsLaws.antt`).
+fn is_convex(s: &[i32]) -> bool
+    requires { ⌜ AllInRange (corners (now s)) ⌝ }
+    ensures { λ r. ⌜ r ≡ isConvex (corners (now (s .entry))) ⌝ }
+{
+    let n = count(s);
+    if n < FEWEST {
+        return true;
+    }
+    let from = corner(s, 0);
+    let run = plane::difference(from, corner(s, 1));
+    let mut i = 0;
+    while i + 2 < n {
+        if !keeps_left(from, run, corner(s, i), corner(s, i + 1), corner(s, i + 2)) {
+            return false;
+        }
+        i += 1;
+    }
+    true
+}
+
+// 6: the first edge that some corner is not strictly left of, and the first such corner.
+fn check_convex(s: &[i32]) -> Check
+    requires { ⌜ AllInRange (corners (now s)) ⌝ }
+    ensures { λ r. ⌜ r ≡ notLeft (corners (now (s .entry))) ⌝ }
+{
+    if is_convex(s) {
+        Check::Passed
+    } else {
+        find_not_left(s)
+    }
 }
 
 // All checks of a list: what the first that fails finds.

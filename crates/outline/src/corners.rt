@@ -5,7 +5,7 @@ use plane::Corner;
 ghost use mathlib.Core.Path.{_≡_};
 ghost use Prim.Native.Nat.{_<_, _≤_};
 ghost use lib.ListN.{length};
-ghost use Rattle.outline.specs.Corners.{corners, corner, next, held, most};
+ghost use Rattle.outline.specs.Corners.{corners, corner, next, previous, held, most};
 
 // How many corners a list gives.
 pub fn count(s: &[i32]) -> usize
@@ -31,6 +31,14 @@ pub fn next(n: usize, i: usize) -> usize
     ensures { λ r. ⌜ r ≡ next n i ⌝ }
 {
     if i + 1 < n { i + 1 } else { 0 }
+}
+
+// The number of the corner before corner i of n.
+pub fn previous(n: usize, i: usize) -> usize
+    requires { ⌜ i < n ⌝ }
+    ensures { λ r. ⌜ r ≡ previous n i ⌝ }
+{
+    if i == 0 { n - 1 } else { i - 1 }
 }
 
 // The outline with the corners of a list.

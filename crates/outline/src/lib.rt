@@ -59,6 +59,7 @@ pub enum Fault {
     OutOfRange(usize),
     Repeated(usize),
     NotLeft(usize, usize),
+    PointOutOfRange,
     NoSuchCorner,
     WrongLength,
 }

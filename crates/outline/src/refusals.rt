@@ -17,6 +17,7 @@ fn number(f: Fault) -> u32
         Fault::OutOfRange(_) => 4,
         Fault::Repeated(_) => 5,
         Fault::NotLeft(_, _) => 6,
+        Fault::PointOutOfRange => 7,
         Fault::NoSuchCorner => 8,
         Fault::WrongLength => 9,
     }
@@ -33,6 +34,7 @@ fn place(f: Fault) -> Place
         Fault::OutOfRange(i) => Place::At(i),
         Fault::Repeated(i) => Place::At(i),
         Fault::NotLeft(e, c) => Place::EdgeAndCorner(e, c),
+        Fault::PointOutOfRange => Place::Nowhere,
         Fault::NoSuchCorner => Place::Nowhere,
         Fault::WrongLength => Place::Nowhere,
     }

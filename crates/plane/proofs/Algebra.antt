@@ -7,6 +7,7 @@
 --     cross-swap, dot-swap            the arguments exchanged
 --     side-end, side-turn             a side number from the edge's other end; of three points taken round
 --     side-same                       against an edge from a point to itself it is 0
+--     dot-less, dot-back              dot u is not above 0 from p to q where it is not greater at q; and then not below 0 from q to p
 --     cramer-x, cramer-y              cross e f times d is cross d f times e plus cross e d times f, in each component
 --     cramer-dot, cramer-cross        the same, dotted with u; crossed with g
 --     dot-self                        a squared length is not negative
@@ -68,6 +69,20 @@ side-turn p q v = solve (coordinates (p ∷ q ∷ v ∷ [])) (sideE (vec 0) (vec
 pub side-same : (p v : Corner) → side p p v ≡ pos 0
 unfolding cross _⇀_
 side-same p v = solve (coordinates (p ∷ v ∷ [])) (sideE (vec 0) (vec 0) (vec 2)) O tt
+
+-- dot u at a point is measured from any one point o
+pub dot-less : (u : Vector) (o p q : Corner) → dot u (o ⇀ q) ≤ℤ dot u (o ⇀ p) → dot u (p ⇀ q) ≤ℤ pos 0
+unfolding dot _⇀_
+dot-less u o p q =
+    let u' = vec 0 in let o' = vec 2 in let p' = vec 4 in let q' = vec 6 in
+    prove (u .x ∷ u .y ∷ coordinates (o ∷ p ∷ q ∷ [])) (dotE u' (o' ⇀E q') ≼ dotE u' (o' ⇀E p') ∷ []) (dotE u' (p' ⇀E q') ≼ O)
+    (hyp 0 ⊞ hyp 1) tt
+
+pub dot-back : (u : Vector) (p q : Corner) → dot u (p ⇀ q) ≤ℤ pos 0 → pos 0 ≤ℤ dot u (q ⇀ p)
+unfolding dot _⇀_
+dot-back u p q =
+    let u' = vec 0 in let p' = vec 2 in let q' = vec 4 in
+    prove (u .x ∷ u .y ∷ coordinates (p ∷ q ∷ [])) (dotE u' (p' ⇀E q') ≼ O ∷ []) (O ≼ dotE u' (q' ⇀E p')) (hyp 0 ⊞ hyp 1) tt
 
 pub cramer-x : (d e f : Vector) → cross e f *ℤ d .x ≡ cross d f *ℤ e .x +ℤ cross e d *ℤ f .x
 unfolding cross

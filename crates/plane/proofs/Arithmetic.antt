@@ -1,10 +1,11 @@
 -- The functions of `plane` compute exactly in 64 bits. For an expression of the code, as a goal shows it, `-fits` says that
 -- its result fits an i64, `-exact` that the result, read back, is the number that a contract names, and `-is` both with a bound.
---     cast-fits                             a coordinate, cast to i64
+--     cast-fits, cast-exact                 a coordinate, cast to i64
 --     difference-fits, difference-exact     of two coordinates
 --     product-fits                          of two components within reach
 --     minus-fits, plus-fits                 of two such products
 --     cross-is, dot-is                      the products of two vectors within reach
+--     cross-local, dot-local                the same as a caller of `side`, `dot` or `squared_length` has it in a local
 -- Every hypothesis shows its numbers, so that `search` finds it in what a need is handed.
 use mathlib.Core.Path.{_≡_}
 use Prim.Native.Nat.{ℕ, _+_, _*_, _^_}
@@ -21,6 +22,9 @@ use Rattle.plane.specs.declared.Vector.{Vector}
 
 pub cast-fits : {z : ℤ} → SFits w32 z → SFits w64 (i32 z)
 cast-fits h = fits (field h) tt
+
+pub cast-exact : {z : ℤ} → SFits w32 z → i64 (i32 z) ≡ z
+cast-exact h = stored w64 (field h) tt .exact
 
 abbrev pub difference64 : ℤ → ℤ → ℤ
 difference64 y z = i64 (i32 y) -ℤ i64 (i32 z)
@@ -73,3 +77,10 @@ module _ {a b : Vector} (h : Span reach a) (k : Span reach b) where
   pub dot-is : Exact most (dot a b) (product64 (a .x) (b .x) +ℤ product64 (a .y) (b .y))
   unfolding dot
   dot-is = plus-is (h .x-size) (k .x-size) (h .y-size) (k .y-size)
+
+  module _ {z : ℤ} where
+    pub cross-local : z ≡ cross a b → Exact most (cross a b) (i64 z)
+    cross-local e = stored w64 (record { bound = cross-is .bound; exact = e }) tt
+
+    pub dot-local : z ≡ dot a b → Exact most (dot a b) (i64 z)
+    dot-local e = stored w64 (record { bound = dot-is .bound; exact = e }) tt

@@ -3,6 +3,7 @@
 --     cone             if dot u e is not below 0 and dot u f not above, then dot u d is not above 0 for any d right of neither edge
 --     turn-next        d right of e, pointing along f and not back along e, is right of f
 --     turn-previous    its mirror: d right of f, pointing back along e and not along f, is right of e
+--     left-trans       of u, v and w left of e: v left of u and w left of v make w left of u
 --     left-of-chord    d left of a to b and of b to c is left of a to c, if an edge into d has none of a, b, c on its right, and a on its left
 use mathlib.Core.List.{[], _∷_}
 use lib.IntN.{pos}
@@ -37,6 +38,15 @@ turn-previous e f d =
     prove (components (e ∷ f ∷ d ∷ []))
     (O ≺ crossE e' f' ∷ crossE f' d' ≺ O ∷ dotE d' f' ≼ O ∷ dotE d' e' ≺ O ∷ []) (crossE e' d' ≺ O)
     (hyp 0 ⊠ hyp 3 ⊞ hyp 1 ⊠ sq (d' .x) ⊞ hyp 1 ⊠ sq (d' .y) ⊞ hyp 2 ⊠ hyp 4) tt
+
+pub left-trans : (e u v w : Vector) → pos 0 <ℤ cross e u → pos 0 <ℤ cross e v → pos 0 <ℤ cross e w → pos 0 <ℤ cross u v
+    → pos 0 <ℤ cross v w → pos 0 <ℤ cross u w
+unfolding cross
+left-trans e u v w =
+    let e' = vec 0 in let u' = vec 2 in let v' = vec 4 in let w' = vec 6 in
+    prove (components (e ∷ u ∷ v ∷ w ∷ []))
+    (O ≺ crossE e' u' ∷ O ≺ crossE e' v' ∷ O ≺ crossE e' w' ∷ O ≺ crossE u' v' ∷ O ≺ crossE v' w' ∷ []) (O ≺ crossE u' w')
+    (hyp 0 ⊠ hyp 2 ⊞ hyp 1 ⊠ hyp 5 ⊞ hyp 3 ⊠ hyp 4) tt
 
 -- Left of a to b and of b to c is not enough: d might lie inside the triangle. The edge comes from s.
 pub left-of-chord : (a b c d s : Corner) → pos 0 <ℤ side b c d → pos 0 ≤ℤ side a b d → pos 0 <ℤ side s d a

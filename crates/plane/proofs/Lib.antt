@@ -4,3 +4,4 @@ pub mod Cone
 pub mod Arithmetic
 pub mod Range
 pub mod Tests
+pub mod Points

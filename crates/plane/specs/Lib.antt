@@ -1,3 +1,4 @@
 -- What contracts say of points and vectors.
 pub mod Vector
 pub mod Range
+pub mod Point

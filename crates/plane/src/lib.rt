@@ -2,6 +2,7 @@
 ghost use mathlib.Core.Path.{_≡_};
 ghost use Rattle.plane.specs.Vector.{_⇀_, cross, dot, same};
 ghost use Rattle.integers.specs.Equal.{eqZ};
+ghost use Rattle.plane.specs.Point.{whole};
 ghost use Rattle.plane.specs.Range.{Span, reach, isCoordinate, inRange};
 
 // A point with whole coordinates; a corner of an outline.
@@ -14,6 +15,24 @@ pub struct Corner {
 pub struct Vector {
     pub x: i64,
     pub y: i64,
+}
+
+// A point at x / lower and y / lower, which is never reduced.
+pub struct Point {
+    pub x: i64,
+    pub y: i64,
+    pub lower: u64,
+}
+
+// A point with whole coordinates, as a point over 1.
+pub fn whole(p: Corner) -> Point
+    ensures { λ r. ⌜ r ≡ whole p ⌝ }
+{
+    Point {
+        x: p.x as i64,
+        y: p.y as i64,
+        lower: 1,
+    }
 }
 
 // The vector from p to q.

@@ -29,6 +29,9 @@ enum-told-4 c = search needs
 enum-told-5 : tie.Need-enum-told-5
 enum-told-5 c = search needs
 
+enum-told-6 : tie.Need-enum-told-6
+enum-told-6 c = search needs
+
 returns : tie.Need-returns
 returns c = search needs
 
@@ -53,6 +56,9 @@ returns-7 c = search needs
 returns-8 : tie.Need-returns-8
 returns-8 c = search needs
 
+returns-9 : tie.Need-returns-9
+returns-9 c = search needs
+
 pub place-spec : {M : Type 1} → statement M
 place-spec =
     tie.close
@@ -65,6 +71,7 @@ place-spec =
     enum-known-f-3
     enum-told-4
     enum-told-5
+    enum-told-6
     returns
     returns-2
     returns-3
@@ -72,4 +79,5 @@ place-spec =
     returns-5
     returns-6
     returns-7
-    returns-8)
+    returns-8
+    returns-9)

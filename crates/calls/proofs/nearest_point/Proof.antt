@@ -1,0 +1,53 @@
+-- `calls::nearest_point` goes by what reading gives and then by the point's range.
+use borrow.Author.Needs.{needs}
+use mathlib.Core.Path.{ap, _∙_}
+use Rattle.nearest.specs.declared.Answer.the-variants.{Found, Refused}
+use Rattle.nearest.proofs.CallLaws.{call-unread, call-out-of-range, call-asks, call-found}
+use Rattle.calls.proofs.nearest_point.Statement.{statement}
+use Rattle.calls.proofs.nearest_point.Tie as tie
+
+read-requires : tie.Need-read-requires
+read-requires c κs = search needs
+
+enum-known-verdict : tie.Need-enum-known-verdict
+enum-known-verdict c = search needs
+
+returns : tie.Need-returns
+returns c = call-unread _ _ (c .before .before .before .read .ensures) (c .before .verdict .given .1)
+
+enum-told : tie.Need-enum-told
+enum-told c = search needs
+
+in-range-requires : tie.Need-in-range-requires
+in-range-requires c κs = search needs
+
+refusal-requires : tie.Need-refusal-requires
+refusal-requires c κs = search needs
+
+returns-2 : tie.Need-returns-2
+returns-2 c =
+    ap Refused (c .refusal .ensures)
+    ∙ call-out-of-range _ _ (c .before .before .before .before .before .read .ensures) (c .before .before .before .enum-told .given .1) (cc)
+
+nearest-requires : tie.Need-nearest-requires
+nearest-requires c κs =
+    call-asks _ _ (c .before .before .before .before .read .ensures) (c .before .before .enum-told .given .1) (cc)
+
+returns-3 : tie.Need-returns-3
+returns-3 c =
+    ap Found (c .nearest .ensures)
+    ∙ call-found _ _ (c .before .before .before .before .before .read .ensures) (c .before .before .before .enum-told .given .1) (cc)
+
+pub nearest-point-spec : {M : Type 1} → statement M
+nearest-point-spec =
+    tie.close
+    (tie.spec
+    read-requires
+    enum-known-verdict
+    returns
+    enum-told
+    in-range-requires
+    refusal-requires
+    returns-2
+    nearest-requires
+    returns-3)

@@ -1,0 +1,140 @@
+-- The answer that the local tests find is the one that document 01 lays down, for every polygon and every whole point.
+--     Tested                       the test of a feature holds; of Within: no test holds
+--     feature-tested               the feature found is one whose test holds
+--     tested-answers               such a feature gives an answer that document 01 lays down, so there is one
+--     answers-iff                  there is only one: `nearest`
+--     nearest-distance             its gap is the squared distance of its point
+--     feature-iff                  so there is only one feature whose test holds
+--     local-agrees                 so a feature is document 01's exactly where its local test holds
+--     foot-at-start, foot-at-end   a foot that falls on an end is a corner
+use Prim.Native.Nat.{ℕ, _<_}
+use mathlib.Core.Path.{_≡_, refl, sym, ap, subst, _∙_}
+use mathlib.Core.Logic.{_↔_, ⊎-elim}
+use mathlib.Core.Bool.{Bool, true, false, cond}
+use mathlib.Core.List.{List}
+use native.Mathlib.Omega.{arith}
+use lib.IntN.{pos}
+use lib.ListN.{length}
+use lib.Signed.{_<ℤ_}
+use Rattle.plane.specs.declared.Corner.{Corner}
+use Rattle.plane.specs.Point.{whole}
+use Rattle.plane.proofs.Points.{same-refl, whole-proper}
+use Rattle.plane.specs.Vector.{side}
+use Rattle.outline.specs.Convex.{Polygon}
+use Rattle.outline.specs.Corners.{corner, next}
+use Rattle.outline.proofs.CornersLaws.{next-below, previous-next}
+use Rattle.nearest.specs.declared.Feature.{Feature}
+use Rattle.nearest.specs.declared.Feature.the-variants.{Within, Corner as AtCorner, Edge as OnEdge}
+use Rattle.nearest.specs.declared.NearestPoint.{NearestPoint}
+use Rattle.nearest.specs.Feature.{squaredLength, along, answer}
+use Rattle.nearest.specs.Nearest.{SquaredDistance, Answers}
+use Rattle.nearest.specs.Local.{isCorner, isEdge, featureAt, feature, nearest}
+use Rattle.nearest.proofs.FirstOf.{firstOf-found}
+use Rattle.nearest.proofs.DistanceLaws.{Known, squared-distance}
+use Rattle.nearest.proofs.FitsLaws.{fits-unique}
+use Rattle.nearest.proofs.LocalLaws.{corner-nearest, edge-nearest, none-holds}
+use Rattle.nearest.proofs.Walk.{corner-test, square-at-start, square-at-end}
+use Rattle.nearest.proofs.Support.{turns-left}
+use Rattle.nearest.proofs.NearestLaws.{nearest-self, nearest-unique}
+
+abbrev pub Tested : List Corner → Corner → Feature → Type 0
+Tested cs v Within = (i : ℕ) → i < length cs → (isCorner cs v i ≡ false) × (isEdge cs v i ≡ false)
+Tested cs v (AtCorner i) = (i < length cs) × (isCorner cs v i ≡ true)
+Tested cs v (OnEdge i) = (i < length cs) × (isEdge cs v i ≡ true)
+
+-- what is found at corner i, by the answers of its two tests
+abbrev found : ℕ → Bool → Bool → Feature
+found i c e = cond c (AtCorner i) (cond e (OnEdge i) Within)
+
+module _ (cs : List Corner) (v : Corner) where
+  found-none : (i : ℕ) (c e : Bool) → found i c e ≡ Within → (c ≡ false) × (e ≡ false)
+  found-none i true e none = (cc, cc)
+  found-none i false true none = (refl, cc)
+  found-none i false false none = (refl, refl)
+
+  found-some : (i : ℕ) → i < length cs → (c e : Bool) → isCorner cs v i ≡ c → isEdge cs v i ≡ e
+      → ¬ (found i c e ≡ Within) → Tested cs v (found i c e)
+  found-some i below true e corner edge some = (below, corner)
+  found-some i below false true corner edge some = (below, edge)
+  found-some i below false false corner edge some = absurd (some refl)
+
+  pub feature-tested : Tested cs v (feature cs v)
+  unfolding feature
+  feature-tested = ⊎-elim
+      (λ (none, fails). subst (Tested cs v) (sym none) (λ i below. found-none i (isCorner cs v i) (isEdge cs v i) (fails i below)))
+      (λ (i, below, first, some). subst (Tested cs v) (sym first) (found-some i below (isCorner cs v i) (isEdge cs v i) refl refl some))
+      (firstOf-found (featureAt cs v) (length cs))
+
+answer-feature : (cs : List Corner) (v : Corner) (f : Feature) → answer cs v f .feature ≡ f
+answer-feature cs v Within = refl
+answer-feature cs v (AtCorner i) = refl
+answer-feature cs v (OnEdge i) = refl
+
+tested-known : (cs : List Corner) (v : Corner) (f : Feature) → Tested cs v f → Known cs f
+tested-known cs v Within holds = tt
+tested-known cs v (AtCorner i) holds = holds .0
+tested-known cs v (OnEdge i) holds = holds .0
+
+module _ {cs : List Corner} (polygon : Polygon cs) (v : Corner) where
+  pub tested-answers : (f : Feature) → Tested cs v f → Answers cs v (answer cs v f)
+  tested-answers Within none =
+      let inside = none-holds polygon v (λ i below. none i below .0) (λ i below. none i below .1) in
+      record { nearest = nearest-self inside; fits = (inside, same-refl (whole v)); written = refl }
+  tested-answers (AtCorner i) (below, holds) =
+      let (nearest, outside) = corner-nearest polygon v i below holds in
+      record { nearest = nearest; fits = (outside, below, same-refl (whole (corner cs i))); written = refl }
+  tested-answers (OnEdge i) (below, holds) =
+      let (nearest, between, outside) = edge-nearest polygon v i below holds in
+      record { nearest = nearest; fits = (outside, below, between); written = refl }
+
+  pub answers-iff : (a : NearestPoint) → Answers cs v a ↔ (a ≡ nearest cs v)
+  answers-iff a = (only, λ is. subst (Answers cs v) (sym is) this)
+    where
+      this : Answers cs v (nearest cs v)
+      this = tested-answers (feature cs v) (feature-tested cs v)
+
+      only : Answers cs v a → a ≡ nearest cs v
+      only other =
+          other .written
+          ∙ ap (answer cs v)
+          (fits-unique polygon (whole v) (a .feature) (nearest cs v .feature) (other .nearest .in-piece) (this .nearest .in-piece)
+          (nearest-unique polygon (whole-proper v) (other .nearest) (this .nearest)) (other .fits) (this .fits)
+          ∙ answer-feature cs v (feature cs v))
+
+  pub nearest-distance : SquaredDistance (whole v) (nearest cs v .point) (nearest cs v .gap)
+  nearest-distance = squared-distance polygon v (feature cs v) (tested-known cs v (feature cs v) (feature-tested cs v))
+
+  pub feature-iff : (f : Feature) → (feature cs v ≡ f) ↔ Tested cs v f
+  feature-iff f = (
+    λ is. subst (Tested cs v) is (feature-tested cs v),
+    λ holds. sym (answer-feature cs v (feature cs v))
+        ∙ ap (λ (a : NearestPoint). a .feature) (sym (answers-iff (answer cs v f) .0 (tested-answers f holds))) ∙ answer-feature cs v f,
+  )
+
+  pub local-agrees : (f : Feature) → Tested cs v f ↔ Answers cs v (answer cs v f)
+  local-agrees f = (
+    tested-answers f,
+    λ is. feature-iff f .0
+        (sym (answer-feature cs v (feature cs v)) ∙ ap (λ (a : NearestPoint). a .feature) (sym (answers-iff (answer cs v f) .0 is))
+        ∙ answer-feature cs v f),
+  )
+
+  module _ (i : ℕ) (below : i < length cs) where
+    abbrev p : Corner
+    p = corner cs i
+
+    abbrev q : Corner
+    q = corner cs (next (length cs) i)
+
+    pub foot-at-start : side p q v <ℤ pos 0 → along p q v ≡ pos 0 → feature cs v ≡ AtCorner i
+    foot-at-start visible at-start =
+        let (other, before, after) = square-at-start v _ p q (turns-left polygon i below) visible at-start in
+        feature-iff (AtCorner i) .1 (below, corner-test v _ p q .1 ((other, before), after))
+
+    pub foot-at-end : side p q v <ℤ pos 0 → along p q v ≡ squaredLength p q → feature cs v ≡ AtCorner (next (length cs) i)
+    foot-at-end visible at-end =
+        let n = length cs in let j = next n i in let known = next-below n i (omega arith) in
+        let turns = rw (previous-next n i below) at (turns-left polygon j known) in
+        let (other, before, after) = square-at-end v p q (corner cs (next n j)) turns visible at-end in
+        feature-iff (AtCorner j) .1
+        (known, corner-test v _ q _ .1 ((other, rw (previous-next n i below) before), after))

@@ -1,0 +1,118 @@
+-- Gaps are squared distances, and compare as these do.
+--     Known               a corner or edge of the outline
+--     squared-distance    the gap that is answered with a feature is the squared distance of the point that is answered
+--     gap-order           of two squared distances from v one is at most the other, as fractions, exactly where its point is not farther
+--     gap-order-strict    and less exactly where its point is nearer
+use Prim.Native.Nat.{ℕ, _*_, _<_, _≤_}
+use native.Mathlib.Nat.{lt-of-not-le, not-le-of-lt}
+use mathlib.Core.Path.{_≡_}
+use mathlib.Core.Logic.{_↔_, Iff·symm, Iff·trans}
+use mathlib.Core.List.{List, [], _∷_}
+use lib.Dec.{T}
+use lib.IntN.{ℤ, pos, natAbs, _+ℤ_, _-ℤ_, _*ℤ_}
+use lib.ListN.{length}
+use lib.Signed.{_≤ℤ_, _<ℤ_, clashℤ}
+use Rattle.integers.specs.declared.fraction.Fraction.{Fraction}
+use Rattle.integers.proofs.Polynomial.{var, lit, _⊕_, _⊗_, ⊝_, solve}
+use Rattle.integers.proofs.Certificate.{Claim, _≺_, _≼_, _≗_, Holds, Cert, hyp, sq, eqn, _⊞_, _⊠_, proves, prove}
+use Rattle.integers.proofs.Order.{≰ℤ-<ℤ, natAbs-nonneg, square-nonneg}
+use Rattle.integers.proofs.Reflect.{test-leb, test-leZ}
+use Rattle.plane.specs.declared.Corner.{Corner}
+use Rattle.plane.specs.declared.Point.{Point}
+use Rattle.plane.specs.declared.Vector.{Vector}
+use Rattle.plane.specs.Point.{Proper, whole, _⇢_, NotFarther, Nearer}
+use Rattle.plane.specs.Vector.{_⇀_, cross, dot, coordinates}
+use Rattle.plane.proofs.Algebra.{O, vec, crossE, dotE, _⇀E_, dot-self}
+use Rattle.plane.proofs.Points.{PointE, wholeE, _⇢E_, whole-proper, whole-⇢}
+use Rattle.outline.specs.Convex.{Polygon}
+use Rattle.outline.specs.Corners.{corner}
+use Rattle.nearest.specs.declared.Feature.{Feature}
+use Rattle.nearest.specs.declared.Feature.the-variants.{Within, Corner as AtCorner, Edge as OnEdge}
+use Rattle.nearest.specs.Piece.{edge}
+use Rattle.nearest.specs.Feature.{answer}
+use Rattle.nearest.specs.Nearest.{SquaredDistance}
+use Rattle.nearest.proofs.LocalLaws.{length-above-0}
+
+abbrev pub Known : List Corner → Feature → Type 0
+Known cs Within = Unit {0}
+Known cs (AtCorner i) = i < length cs
+Known cs (OnEdge i) = i < length cs
+
+-- n is the squared distance of two points with whole coordinates
+whole-distance : (c v : Corner) {n : ℤ} → n ≡ dot (c ⇀ v) (c ⇀ v)
+    → n *ℤ (pos 1 *ℤ pos 1) *ℤ (pos 1 *ℤ pos 1) ≡ dot (whole c ⇢ whole v) (whole c ⇢ whole v) *ℤ pos 1
+whole-distance c v {n} distance =
+    rw (whole-⇢ c v, ← distance) (solve (n ∷ []) (var 0 ⊗ lit (pos 1) ⊗ lit (pos 1)) (var 0 ⊗ lit (pos 1)) tt)
+
+-- The vector to v from its foot on the line through p along e, times the foot's lower number |e|², here l.
+abbrev fromFoot : Corner → Vector → Corner → ℤ → Vector
+fromFoot p e v l = record {
+  x = v .x *ℤ l -ℤ (dot e e *ℤ p .x +ℤ dot (p ⇀ v) e *ℤ e .x) *ℤ pos 1;
+  y = v .y *ℤ l -ℤ (dot e e *ℤ p .y +ℤ dot (p ⇀ v) e *ℤ e .y) *ℤ pos 1;
+}
+
+-- Its squared length is |e|² times the square n of the side number.
+foot-distance : (p : Corner) (e : Vector) (v : Corner) {n l : ℤ} → n ≡ cross e (p ⇀ v) *ℤ cross e (p ⇀ v) → l ≡ dot e e
+    → n *ℤ (l *ℤ pos 1) *ℤ (l *ℤ pos 1) ≡ dot (fromFoot p e v l) (fromFoot p e v l) *ℤ l
+unfolding cross dot _⇀_
+foot-distance p e v square length =
+    let p' = vec 0 in let e' = vec 2 in let v' = vec 4 in let one = lit (pos 1) in
+    let l = dotE e' e' in let t = dotE (p' ⇀E v') e' in let s = crossE e' (p' ⇀E v') in
+    let foot : PointE = record { x = l ⊗ p' .x ⊕ t ⊗ e' .x; y = l ⊗ p' .y ⊕ t ⊗ e' .y; lower = l } in
+    let w = foot ⇢E wholeE v' in
+    rw (square, length)
+    (solve (p .x ∷ p .y ∷ e .x ∷ e .y ∷ v .x ∷ v .y ∷ []) (s ⊗ s ⊗ (l ⊗ one) ⊗ (l ⊗ one)) (dotE w w ⊗ l) tt)
+
+module _ {cs : List Corner} (polygon : Polygon cs) (v : Corner) where
+  -- the gap and the point have the same lower number, 1 or an edge's squared length
+  lowers : (f : Feature) → Known cs f → (pos 0 <ℤ pos (answer cs v f .gap .lower)) × Proper (answer cs v f .point)
+  lowers Within known = (whole-proper v, whole-proper v)
+  lowers (AtCorner i) known = (whole-proper v, whole-proper v)
+  lowers (OnEdge i) known =
+      let long : pos 0 <ℤ pos (natAbs (dot (edge cs i) (edge cs i))) =
+      rw (natAbs-nonneg (dot-self (edge cs i))) (length-above-0 polygon v i known) in
+      (long, long)
+
+  equal : (f : Feature)
+      → pos (answer cs v f .gap .upper) *ℤ (pos (answer cs v f .point .lower) *ℤ pos 1) *ℤ (pos (answer cs v f .point .lower) *ℤ pos 1)
+      ≡ dot (answer cs v f .point ⇢ whole v) (answer cs v f .point ⇢ whole v) *ℤ pos (answer cs v f .gap .lower)
+  unfolding dot _⇀_ _⇢_
+  equal Within = whole-distance v v (solve (coordinates (v ∷ [])) O (dotE (vec 0 ⇀E vec 0) (vec 0 ⇀E vec 0)) tt)
+  equal (AtCorner i) = whole-distance (corner cs i) v (natAbs-nonneg (dot-self (corner cs i ⇀ v)))
+  equal (OnEdge i) =
+      foot-distance (corner cs i) (edge cs i) v
+      (natAbs-nonneg (square-nonneg (cross (edge cs i) (corner cs i ⇀ v)))) (natAbs-nonneg (dot-self (edge cs i)))
+
+  pub squared-distance : (f : Feature) → Known cs f → SquaredDistance (whole v) (answer cs v f .point) (answer cs v f .gap)
+  squared-distance f known = record { proper = lowers f known .1; lower-positive = lowers f known .0; equal = equal f }
+
+≤-≤ℤ : (a b : ℕ) → (a ≤ b) ↔ (pos a ≤ℤ pos b)
+≤-≤ℤ a b = Iff·trans (Iff·symm (test-leb a b)) (test-leZ (pos a) (pos b))
+
+-- With a/k and b/l the fractions, d and e the squared distances times the squares of the lower numbers r and t, s and t: the cross
+-- products a l and b k, times (r s t)², are the two sides of `NotFarther`, times k l.
+module _ {v y z : Point} {g h : Fraction} (proper : Proper v) (at-y : SquaredDistance v y g) (at-z : SquaredDistance v z h) where
+  pub gap-order : (g .upper * h .lower ≤ h .upper * g .lower) ↔ NotFarther v y z
+  gap-order =
+      let a = var 0 in let k = var 1 in let b = var 2 in let l = var 3 in
+      let d = var 4 in let e = var 5 in let r = var 6 in let s = var 7 in let t = var 8 in
+      let numbers : List ℤ = pos (g .upper) ∷ pos (g .lower) ∷ pos (h .upper) ∷ pos (h .lower)
+      ∷ dot (y ⇢ v) (y ⇢ v) ∷ dot (z ⇢ v) (z ⇢ v) ∷ pos (y .lower) ∷ pos (z .lower) ∷ pos (v .lower) ∷ [] in
+      let known : Claim → List Claim = λ c. a ⊗ (r ⊗ t) ⊗ (r ⊗ t) ≗ d ⊗ k ∷ b ⊗ (s ⊗ t) ⊗ (s ⊗ t) ≗ e ⊗ l
+      ∷ O ≺ k ∷ O ≺ l ∷ O ≺ r ∷ O ≺ s ∷ O ≺ t ∷ c ∷ [] in
+      let from : (c goal : Claim) (w : Cert) → T (proves (known c) goal w) → Holds numbers c → Holds numbers goal = λ c goal w sound.
+      prove numbers (known c) goal w sound (at-y .equal) (at-z .equal)
+      (at-y .lower-positive) (at-z .lower-positive) (at-y .proper) (at-z .proper) proper in
+      let at-most = a ⊗ l ≼ b ⊗ k in let not-farther = d ⊗ (s ⊗ s) ≼ e ⊗ (r ⊗ r) in
+      Iff·trans (≤-≤ℤ (g .upper * h .lower) (h .upper * g .lower)) (
+        from at-most not-farther
+            (hyp 0 ⊠ hyp 3 ⊠ hyp 4 ⊞ hyp 8 ⊠ sq (r ⊗ s ⊗ t) ⊞ eqn 1 (⊝ (l ⊗ s ⊗ s)) ⊞ eqn 2 (k ⊗ r ⊗ r)) tt,
+        from not-farther at-most
+            (hyp 0 ⊠ hyp 5 ⊠ hyp 5 ⊠ hyp 6 ⊠ hyp 6 ⊠ hyp 7 ⊠ hyp 7 ⊞ hyp 8 ⊠ hyp 3 ⊠ hyp 4 ⊞ eqn 1 (l ⊗ s ⊗ s) ⊞ eqn 2 (⊝ (k ⊗ r ⊗ r))) tt,
+      )
+
+pub gap-order-strict : {v y z : Point} {g h : Fraction} → Proper v → SquaredDistance v y g → SquaredDistance v z h
+    → (g .upper * h .lower < h .upper * g .lower) ↔ Nearer v y z
+gap-order-strict proper at-y at-z =
+    let back = gap-order proper at-z at-y in
+    (λ less. ≰ℤ-<ℤ (λ h. not-le-of-lt less (back .1 h)), λ nearer. lt-of-not-le (λ h. clashℤ nearer (back .0 h)))

@@ -1,0 +1,16 @@
+-- The nearest point: laws, in the order of the argument, and then what the code stands on.
+pub mod Support
+pub mod NearestLaws
+pub mod PieceLaws
+pub mod Foot
+pub mod Walk
+pub mod LocalLaws
+pub mod FitsLaws
+pub mod DistanceLaws
+pub mod FirstOf
+pub mod AnswerLaws
+pub mod SearchLaws
+pub mod Scaling
+pub mod Sizes
+pub mod Pass
+pub mod CallLaws

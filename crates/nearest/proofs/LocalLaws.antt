@@ -1,0 +1,141 @@
+-- The local tests tell the nearest point, and outside the piece one of them holds.
+--     length-above-0    the squared length of an edge is above 0
+--     outside-test      `isOutside` holds exactly of points outside the piece
+--     corner-nearest    a corner whose test holds is the nearest point, and v is outside the piece
+--     edge-nearest      an edge whose test holds has the nearest point strictly between its ends, and v is outside the piece
+--     none-holds        where no test holds, v is in the piece
+use Prim.Native.Nat.{ℕ, _<_}
+use mathlib.Core.Path.{_≡_, refl, subst}
+use mathlib.Core.Logic.{_↔_, inl, inr}
+use mathlib.Core.Bool.{true, false}
+use mathlib.Core.List.{List, [], _∷_}
+use native.Mathlib.Omega.{arith}
+use lib.IntN.{ℤ, pos, natAbs, _+ℤ_, _*ℤ_}
+use lib.ListN.{length}
+use lib.Signed.{_≤ℤ_, _<ℤ_, clashℤ, yes-nonNeg, pos-natAbs}
+use Rattle.integers.proofs.Order.{<ℤ-≤ℤ, ≮ℤ-≤ℤ}
+use Rattle.integers.proofs.Reflect.{false-not}
+use Rattle.integers.proofs.Certificate.{_≺_, _≼_, _≗_, hyp, sq, _⊞_, _⊠_, prove}
+use Rattle.plane.specs.declared.Corner.{Corner}
+use Rattle.plane.specs.declared.Point.{Point}
+use Rattle.plane.specs.declared.Vector.{Vector}
+use Rattle.plane.specs.Point.{whole}
+use Rattle.plane.specs.Vector.{_⇀_, cross, dot, side, coordinates}
+use Rattle.plane.proofs.Algebra.{O, vec, crossE, dotE, _⇀E_, components, dot-self}
+use Rattle.plane.proofs.Points.{whole-⇢}
+use Rattle.outline.specs.Convex.{Polygon}
+use Rattle.outline.specs.Corners.{corner, next, previous}
+use Rattle.outline.proofs.CornersLaws.{next-below, previous-below, next-previous, previous-next}
+use Rattle.nearest.specs.declared.Feature.the-variants.{Edge as OnEdge}
+use Rattle.nearest.specs.Piece.{InPiece, Outside, isOutside}
+use Rattle.nearest.specs.Feature.{squaredLength, along, answer}
+use Rattle.nearest.specs.Nearest.{Nearest, Between}
+use Rattle.nearest.specs.Local.{isCorner, isEdge}
+use Rattle.nearest.proofs.PieceLaws.{whole-in-piece, inside-test}
+use Rattle.nearest.proofs.Support.{corner-in-piece, turns-left, corner-cone}
+use Rattle.nearest.proofs.Foot.{foot-left, foot-on-line, foot-after, foot-before, foot-bound}
+use Rattle.nearest.proofs.Walk.{corner-test, edge-test, PastEnd, PastStart, visible-past, forth, back, no-descent}
+
+-- corners at squared distance 0 are the same
+apart-0 : (p q : Corner) → dot (p ⇀ q) (p ⇀ q) ≤ℤ pos 0 → p ≡ q
+unfolding dot _⇀_
+apart-0 p q none =
+    let p' = vec 0 in let q' = vec 2 in let a = p' ⇀E q' in λ i. record {
+      x = prove (coordinates (p ∷ q ∷ [])) (dotE a a ≼ O ∷ []) (p' .x ≗ q' .x) (hyp 0 ⊠ hyp 0 ⊞ hyp 1 ⊞ sq (a .y)) tt none i;
+      y = prove (coordinates (p ∷ q ∷ [])) (dotE a a ≼ O ∷ []) (p' .y ≗ q' .y) (hyp 0 ⊠ hyp 0 ⊞ hyp 1 ⊞ sq (a .x)) tt none i;
+    }
+
+-- a vector that is strictly left of some vector has a length
+cross-length : (d e : Vector) → pos 0 <ℤ cross d e → pos 0 <ℤ dot e e
+unfolding cross dot
+cross-length d e =
+    let d' = vec 0 in let e' = vec 2 in
+    prove (components (d ∷ e ∷ [])) (O ≺ crossE d' e' ∷ []) (O ≺ dotE e' e')
+    (hyp 1 ⊠ hyp 1 ⊞ sq (dotE d' e') ⊞ hyp 0 ⊠ sq (d' .x) ⊞ hyp 0 ⊠ sq (d' .y)) tt
+
+module _ {cs : List Corner} (polygon : Polygon cs) (v : Corner) where
+  pub length-above-0 : (i : ℕ) → i < length cs → pos 0 <ℤ squaredLength (corner cs i) (corner cs (next (length cs) i))
+  length-above-0 i below = cross-length _ _ (turns-left polygon i below)
+
+  pub outside-test : (isOutside cs v ≡ true) ↔ Outside cs (whole v)
+  outside-test = false-not (isOutside cs v) (inside-test cs v)
+
+  -- the cone at a corner whose test holds has the piece in it, and v not
+  pub corner-nearest : (i : ℕ) → i < length cs → isCorner cs v i ≡ true
+      → Nearest cs (whole v) (whole (corner cs i)) × Outside cs (whole v)
+  corner-nearest i below holds =
+      let c = corner cs i in
+      let ((other, before), after) = corner-test v _ c _ .0 holds in
+      let bound = corner-cone polygon i below (c ⇀ v) before after in (
+        record {
+          in-piece = corner-in-piece polygon i below;
+          at-most-0 = λ j known. rw (whole-⇢ c v) (bound (whole (corner cs j)) (corner-in-piece polygon j known));
+        },
+        λ inside. other (apart-0 c v (rw (whole-⇢ c v) at (bound (whole v) inside))),
+      )
+
+  -- every corner is right of no edge
+  corner-left : (i j : ℕ) → i < length cs → j < length cs → pos 0 ≤ℤ side (corner cs i) (corner cs (next (length cs) i)) (corner cs j)
+  corner-left i j below known = whole-in-piece cs (corner cs j) .0 (corner-in-piece polygon j known) i below
+
+  -- the nearest point is the foot of v on the edge: the answer's point, with n for the edge's squared length
+  pub edge-nearest : (i : ℕ) → i < length cs → isEdge cs v i ≡ true
+      → Nearest cs (whole v) (answer cs v (OnEdge i) .point) × Between cs i (answer cs v (OnEdge i) .point) × Outside cs (whole v)
+  edge-nearest i below holds =
+      let p = corner cs i in
+      let q = corner cs (next (length cs) i) in
+      let t = along p q v in
+      let n = natAbs (squaredLength p q) in
+      let ((visible, after), before) = edge-test v p q .0 holds in
+      let long = length-above-0 i below in
+      let is-n : pos n ≡ squaredLength p q = pos-natAbs _ (yes-nonNeg (<ℤ-≤ℤ long)) in
+      let long-n : pos 0 <ℤ pos n = rw is-n long in
+      let before-n : t <ℤ pos n = rw is-n before in
+      subst (λ (y : Point). Nearest cs (whole v) y × Between cs i y × Outside cs (whole v))
+      (λ k. record { x = is-n k *ℤ p .x +ℤ t *ℤ (p ⇀ q) .x; y = is-n k *ℤ p .y +ℤ t *ℤ (p ⇀ q) .y; lower = n }) (
+        record {
+          in-piece = record {
+            proper = long-n;
+            right-of-none = λ j known. foot-left n t p q (corner cs j) (corner cs (next (length cs) j)) after before-n
+                (corner-left j i known below) (corner-left j (next (length cs) i) known (next-below (length cs) i (omega arith)));
+          };
+          at-most-0 = λ j known. foot-bound n t p q v (corner cs j) is-n refl long-n visible (corner-left i j below known);
+        },
+        record {
+          on-line = foot-on-line n t p q;
+          after-start = foot-after n t p q after long;
+          before-end = foot-before n t p q before-n long;
+        },
+        λ inside. clashℤ visible (whole-in-piece cs v .0 inside i below),
+      )
+
+  -- Were an edge visible, the walk forth from its end or the walk back from its start would come nearer and nearer to v.
+  pub none-holds : ((i : ℕ) → i < length cs → isCorner cs v i ≡ false) → ((i : ℕ) → i < length cs → isEdge cs v i ≡ false)
+      → InPiece cs (whole v)
+  none-holds corners edges = whole-in-piece cs v .1 (λ i below. ≮ℤ-≤ℤ (not-visible i below))
+    where
+      n : ℕ
+      n = length cs
+
+      apart : ℕ → ℤ
+      apart i = dot (corner cs i ⇀ v) (corner cs i ⇀ v)
+
+      not-forth : (i : ℕ) → ¬ ((i < n) × PastEnd v (corner cs (previous n i)) (corner cs i))
+      not-forth = no-descent _ (next n) apart (λ i. dot-self _) (λ i (below, past).
+          let (on, nearer) = forth v _ _ _ (turns-left polygon i below) (corners i below) past (edges i below) in
+          ((next-below n i (omega arith), rw (previous-next n i below) on), nearer))
+
+      not-back : (i : ℕ) → ¬ ((i < n) × PastStart v (corner cs i) (corner cs (next n i)))
+      not-back = no-descent _ (previous n) apart (λ i. dot-self _) (λ i (below, past).
+          let known = previous-below n i below in
+          let edge-fails = rw (next-previous n i below) at (edges (previous n i) known) in
+          let (on, nearer) = back v _ _ _ (turns-left polygon i below) (corners i below) past edge-fails in
+          ((known, rw (next-previous n i below) on), nearer))
+
+      not-visible : (i : ℕ) → i < n → ¬ (side (corner cs i) (corner cs (next n i)) v <ℤ pos 0)
+      not-visible i below visible =
+          elim (visible-past v _ _ visible (edges i below)) [
+            | inl start ↦ not-back i (below, record { visible = visible; behind = start })
+            | inr end ↦ not-forth (next n i)
+                (next-below n i (omega arith), rw (previous-next n i below) (record { visible = visible; behind = end }))
+          ]

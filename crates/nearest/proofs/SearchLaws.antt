@@ -1,0 +1,208 @@
+-- The exhaustive search finds the nearest point, in whatever order it tries.
+--     leastOf-strict        of a list in which one member has a gap less than every other's, `leastOf` gives that member
+--     parts                 the members of a list that is joined from parts are those of the parts
+--     Tried                 the features that are tried: every corner, and every edge whose test holds
+--     tried-is, is-tried    what is tried is the answers with these features
+--     Candidate             an answer whose point is in the piece, is what its feature says, and lies at the stated distance
+--     candidate             whatever is tried is one
+--     no-better             every candidate other than the nearest has a greater gap
+--     least-any-order       the least of any list of what is tried, in any order and with repeats, is the nearest
+--     search-nearest        the search finds the nearest
+use Prim.Native.Nat.{ℕ, zero, suc, _<_, _*_}
+use native.Mathlib.Nat.{eq-or-lt-of-le, le-of-lt, le-of-suc-le-suc}
+use native.Mathlib.Omega.{arith}
+use mathlib.Core.Path.{_≡_, refl, sym, ap}
+use mathlib.Core.Logic.{_↔_, Iff·rfl, _⊎_, inl, inr, ⊎-elim}
+use mathlib.Core.Bool.{Bool, true, false, cond}
+use mathlib.Core.List.{List, [], _∷_, _++_, List·Memᴰ, List·Memᴰ·head, List·Memᴰ·tail, List·Memᴰ·cases-cons, List·Memᴰ·not-nil}
+use mathlib.Core.List.{List·Memᴰ·eq-of-singleton, List·Memᴰ·append-cases, Memᴰ·append-left, Memᴰ·append-right}
+use borrow.Author.Tests.{lt-ltb, le-ltb}
+use lib.IntN.{pos, _*ℤ_, ℤ-discrete}
+use lib.ListN.{length}
+use Rattle.integers.proofs.Reflect.{test-false}
+use Rattle.plane.specs.declared.Corner.{Corner}
+use Rattle.plane.specs.declared.Point.{Point}
+use Rattle.plane.specs.Point.{whole, Same}
+use Rattle.plane.proofs.Points.{whole-proper, same-refl}
+use Rattle.outline.specs.Convex.{Polygon}
+use Rattle.outline.specs.Corners.{corner}
+use Rattle.nearest.specs.declared.Feature.{Feature}
+use Rattle.nearest.specs.declared.Feature.the-variants.{Within, Corner as AtCorner, Edge as OnEdge}
+use Rattle.nearest.specs.declared.NearestPoint.{NearestPoint}
+use Rattle.nearest.specs.Piece.{InPiece, Outside, isOutside}
+use Rattle.nearest.specs.Feature.{answer}
+use Rattle.nearest.specs.Nearest.{Fits, SquaredDistance}
+use Rattle.nearest.specs.Local.{isEdge, feature, nearest}
+use Rattle.nearest.specs.Search.{within, triedCorners, triedEdges, tried, isLess, least, leastOf, search}
+use Rattle.nearest.proofs.Support.{corner-in-piece}
+use Rattle.nearest.proofs.NearestLaws.{others-farther}
+use Rattle.nearest.proofs.LocalLaws.{outside-test, edge-nearest}
+use Rattle.nearest.proofs.FitsLaws.{fits-unique}
+use Rattle.nearest.proofs.DistanceLaws.{squared-distance, gap-order-strict}
+use Rattle.nearest.proofs.AnswerLaws.{Tested, feature-tested, tested-answers}
+
+-- What holds of b and of a holds of the one that a test picks.
+picked : (P : NearestPoint → Type 0) (t : Bool) (b a : NearestPoint) → P b → P a → P (cond t b a)
+picked P true b a here there = here
+picked P false b a here there = there
+
+-- a's gap is less than b's, as values
+abbrev Less : NearestPoint → NearestPoint → Type 0
+Less a b = a .gap .upper * b .gap .lower < b .gap .upper * a .gap .lower
+
+module _ (m : NearestPoint) where
+  -- b is m, or m has the lesser gap
+  abbrev NoBetter : NearestPoint → Type 0
+  NoBetter b = (b ≡ m) ⊎ Less m b
+
+  abbrev AllNoBetter : List NearestPoint → Type 0
+  AllNoBetter bs = (b : NearestPoint) → List·Memᴰ b bs → NoBetter b
+
+  -- Of two of which one is m, m is kept.
+  kept : (a b : NearestPoint) → NoBetter a → NoBetter b → (m ≡ a) ⊎ (m ≡ b) → cond (isLess (b .gap) (a .gap)) b a ≡ m
+  kept a b known (inl also) (inl is) = picked (λ c. c ≡ m) (isLess (b .gap) (a .gap)) b a also (sym is)
+  kept a b known (inr less) (inl is) = let lesser : Less a b = rw is at less in rw (le-ltb _ _ (le-of-lt lesser)) (sym is)
+  kept a b (inl also) known (inr is) = picked (λ c. c ≡ m) (isLess (b .gap) (a .gap)) b a (sym is) also
+  kept a b (inr less) known (inr is) = let lesser : Less b a = rw is at less in rw (lt-ltb _ _ lesser) (sym is)
+
+  least-strict : (a : NearestPoint) (bs : List NearestPoint) → NoBetter a → AllNoBetter bs → (m ≡ a) ⊎ List·Memᴰ m bs → least a bs ≡ m
+  unfolding least
+  least-strict a [] known all among = ⊎-elim sym (λ there. absurd (List·Memᴰ·not-nil there)) among
+  least-strict a (b ∷ bs) known all among =
+      least-strict (cond (isLess (b .gap) (a .gap)) b a) bs (picked NoBetter (isLess (b .gap) (a .gap)) b a second known)
+      (λ c there. all c (List·Memᴰ·tail there))
+      (⊎-elim (λ is. stays (inl is)) (λ there. ⊎-elim (λ is. stays (inr is)) inr (List·Memᴰ·cases-cons there)) among)
+    where
+      second : NoBetter b
+      second = all b (List·Memᴰ·head refl)
+
+      stays : (m ≡ a) ⊎ (m ≡ b) → (m ≡ cond (isLess (b .gap) (a .gap)) b a) ⊎ List·Memᴰ m bs
+      stays one = inl (sym (kept a b known second one))
+
+  -- A list's member m with a gap less than every other's is what `leastOf` gives.
+  leastOf-strict : (none : NearestPoint) (bs : List NearestPoint) → AllNoBetter bs → List·Memᴰ m bs → leastOf none bs ≡ m
+  leastOf-strict none [] all there = absurd (List·Memᴰ·not-nil there)
+  leastOf-strict none (a ∷ bs) all there =
+      least-strict a bs (all a (List·Memᴰ·head refl)) (λ b among. all b (List·Memᴰ·tail among)) (List·Memᴰ·cases-cons there)
+
+-- a list that is joined from the parts 0, 1, ..
+module _ {A : Type 0} (joined part : ℕ → List A) (none : joined 0 ≡ []) (more : (n : ℕ) → joined (suc n) ≡ joined n ++ part n) where
+  parts : (n : ℕ) (a : A) → List·Memᴰ a (joined n) ↔ ((i : ℕ) × (i < n) × List·Memᴰ a (part i))
+  parts zero a = (λ there. absurd (List·Memᴰ·not-nil (rw none at there)), λ (i, below, _). absurd (omega arith))
+  parts (suc n) a = (
+    λ there. ⊎-elim (λ before. let (i, below, here) = parts n a .0 before in (i, omega arith, here)) (λ here. (n, omega arith, here))
+        (List·Memᴰ·append-cases (joined n) (rw (more n) at there)),
+    λ (i, below, here). rw (more n) (⊎-elim (λ is. Memᴰ·append-right (joined n) (rw is at here))
+        (λ lower. Memᴰ·append-left (part n) (parts n a .1 (i, lower, here))) (eq-or-lt-of-le (le-of-suc-le-suc below))),
+  )
+
+-- a list that has one member where a test holds, and none where it fails
+from-test : (t : Bool) {a b : NearestPoint} → List·Memᴰ a (cond t (b ∷ []) []) → (t ≡ true) × (a ≡ b)
+from-test true there = (refl, List·Memᴰ·eq-of-singleton there)
+from-test false there = absurd (List·Memᴰ·not-nil there)
+
+abbrev Tried : List Corner → Corner → Feature → Type 0
+Tried cs v Within = ⊥
+Tried cs v (AtCorner i) = i < length cs
+Tried cs v (OnEdge i) = (i < length cs) × (isEdge cs v i ≡ true)
+
+module _ (cs : List Corner) (v : Corner) where
+  -- what is tried at corner i, and at edge i
+  cornerAt : ℕ → List NearestPoint
+  cornerAt i = answer cs v (AtCorner i) ∷ []
+
+  edgeAt : ℕ → List NearestPoint
+  edgeAt i = cond (isEdge cs v i) (answer cs v (OnEdge i) ∷ []) []
+
+  corners-tried : (a : NearestPoint) → List·Memᴰ a (triedCorners cs v (length cs)) ↔ ((i : ℕ) × (i < length cs) × List·Memᴰ a (cornerAt i))
+  unfolding triedCorners cornerAt
+  corners-tried a = parts (triedCorners cs v) cornerAt refl (λ n. refl) (length cs) a
+
+  edges-tried : (a : NearestPoint) → List·Memᴰ a (triedEdges cs v (length cs)) ↔ ((i : ℕ) × (i < length cs) × List·Memᴰ a (edgeAt i))
+  unfolding triedEdges edgeAt
+  edges-tried a = parts (triedEdges cs v) edgeAt refl (λ n. refl) (length cs) a
+
+  tried-is : (a : NearestPoint) → List·Memᴰ a (tried cs v) → (g : Feature) × Tried cs v g × (a ≡ answer cs v g)
+  unfolding tried cornerAt edgeAt
+  tried-is a there =
+      ⊎-elim (λ among. let (i, below, here) = corners-tried a .0 among in (AtCorner i, below, List·Memᴰ·eq-of-singleton here))
+      (λ among. let (i, below, here) = edges-tried a .0 among in
+      let (holds, is) = from-test (isEdge cs v i) here in (OnEdge i, (below, holds), is))
+      (List·Memᴰ·append-cases (triedCorners cs v (length cs)) there)
+
+  is-tried : (g : Feature) → Tried cs v g → List·Memᴰ (answer cs v g) (tried cs v)
+  unfolding tried cornerAt edgeAt
+  is-tried Within none = absurd none
+  is-tried (AtCorner i) below = Memᴰ·append-left (triedEdges cs v (length cs)) (corners-tried _ .1 (i, below, List·Memᴰ·head refl))
+  is-tried (OnEdge i) (below, holds) =
+      Memᴰ·append-right (triedCorners cs v (length cs)) (edges-tried _ .1 (i, below, rw holds (List·Memᴰ·head refl)))
+
+same? : (y z : Point) → Dec (Same y z)
+same? y z = go (ℤ-discrete _ _) (ℤ-discrete _ _)
+  where
+    go : Dec (y .x *ℤ pos (z .lower) ≡ z .x *ℤ pos (y .lower)) → Dec (y .y *ℤ pos (z .lower) ≡ z .y *ℤ pos (y .lower)) → Dec (Same y z)
+    go (yes x) (yes y) = yes (record { same-x = x; same-y = y })
+    go (yes x) (no other) = no (λ same. other (same .same-y))
+    go (no other) y = no (λ same. other (same .same-x))
+
+record Candidate (cs : List Corner) (v : Corner) (g : Feature) : Type 0 where
+  in-piece : InPiece cs (answer cs v g .point)
+  fits : Fits cs (whole v) (answer cs v g .point) g
+  measured : SquaredDistance (whole v) (answer cs v g .point) (answer cs v g .gap)
+
+module _ {cs : List Corner} (polygon : Polygon cs) (v : Corner) where
+  candidate : Outside cs (whole v) → (g : Feature) → Tried cs v g → Candidate cs v g
+  candidate outside Within none = absurd none
+  candidate outside (AtCorner i) below = record {
+    in-piece = corner-in-piece polygon i below;
+    fits = (outside, below, same-refl (whole (corner cs i)));
+    measured = squared-distance polygon v (AtCorner i) below;
+  }
+  candidate outside (OnEdge i) (below, holds) = let (nearest, between, _) = edge-nearest polygon v i below holds in record {
+    in-piece = nearest .in-piece;
+    fits = (outside, below, between);
+    measured = squared-distance polygon v (OnEdge i) below;
+  }
+
+  -- One point is one feature only, so another candidate is another point, and that is strictly farther.
+  no-better : (f g : Feature) → Tested cs v f → Candidate cs v f → Candidate cs v g → NoBetter (answer cs v f) (answer cs v g)
+  no-better f g holds c d =
+      elim (same? (answer cs v f .point) (answer cs v g .point)) [
+        | yes same ↦ inl (ap (answer cs v) (sym (fits-unique polygon (whole v) f g (c .in-piece) (d .in-piece) same (c .fits) (d .fits))))
+        | no other ↦ inr (gap-order-strict (whole-proper v) (c .measured) (d .measured) .1
+            (others-farther polygon (whole-proper v) (tested-answers polygon v f holds .nearest) (d .in-piece) other))
+      ]
+
+  -- Outside the piece the feature found is one that is tried, and in the piece it is Within.
+  found-tried : Outside cs (whole v) → (f : Feature) → Tested cs v f → Tried cs v f
+  found-tried outside Within holds = absurd (outside (tested-answers polygon v Within holds .fits .0))
+  found-tried outside (AtCorner i) holds = holds .0
+  found-tried outside (OnEdge i) holds = holds
+
+  found-within : ¬ Outside cs (whole v) → (f : Feature) → Tested cs v f → within v ≡ answer cs v f
+  found-within inside Within holds = refl
+  found-within inside (AtCorner i) holds = absurd (inside (tested-answers polygon v (AtCorner i) holds .fits .0))
+  found-within inside (OnEdge i) holds = absurd (inside (tested-answers polygon v (OnEdge i) holds .fits .0))
+
+  -- any list of what is tried, in any order and with repeats
+  pub least-any-order : Outside cs (whole v) → (none : NearestPoint) (order : List NearestPoint)
+      → ((a : NearestPoint) → List·Memᴰ a order ↔ List·Memᴰ a (tried cs v)) → leastOf none order ≡ nearest cs v
+  least-any-order outside none order same =
+      leastOf-strict (nearest cs v) none order
+      (λ a there. let (g, tried, is) = tried-is cs v a (same a .0 there) in
+      rw is (no-better (feature cs v) g holds found (candidate outside g tried)))
+      (same (nearest cs v) .1 (is-tried cs v (feature cs v) (found-tried outside (feature cs v) holds)))
+    where
+      holds : Tested cs v (feature cs v)
+      holds = feature-tested cs v
+
+      found : Candidate cs v (feature cs v)
+      found = candidate outside (feature cs v) (found-tried outside (feature cs v) holds)
+
+  pub search-nearest : search cs v ≡ nearest cs v
+  search-nearest = by-test (isOutside cs v) refl
+    where
+      by-test : (t : Bool) → isOutside cs v ≡ t → cond t (leastOf (within v) (tried cs v)) (within v) ≡ nearest cs v
+      by-test true holds = least-any-order (outside-test polygon v .0 holds) (within v) (tried cs v) (λ a. Iff·rfl)
+      by-test false fails =
+          found-within (test-false (isOutside cs v) (outside-test polygon v) .0 fails) (feature cs v) (feature-tested cs v)

@@ -1,0 +1,56 @@
+-- The nearest feature of an outline to a point, found by tests that look at a corner or an edge and the corners next to it alone.
+--     cornerIsNearest, edgeIsNearest    the tests, of the corners themselves
+--     isCorner, isEdge                  the tests at corner i and at edge i of an outline
+--     feature                           the feature that they find; Within where they find none
+--     nearest                           the answer with that feature
+-- `proofs/Nearest.antt` shows that `nearest` is the one answer that document 01's definition (`Nearest.antt`) admits.
+use Prim.Native.Nat.{ℕ, zero, suc}
+use mathlib.Core.Bool.{Bool, cond, not, _&&_}
+use mathlib.Core.List.{List}
+use lib.IntN.{pos}
+use lib.ListN.{length}
+use lib.Signed.{leZ, ltZ}
+use Rattle.plane.specs.declared.Corner.{Corner}
+use Rattle.plane.specs.Vector.{_⇀_, dot, side, same}
+use Rattle.outline.specs.Corners.{corner, next, previous}
+use Rattle.nearest.specs.declared.Feature.{Feature}
+use Rattle.nearest.specs.declared.Feature.the-variants.{Within, Corner as AtCorner, Edge as OnEdge}
+use Rattle.nearest.specs.declared.NearestPoint.{NearestPoint}
+use Rattle.nearest.specs.Feature.{squaredLength, along, answer}
+
+-- v is not the corner c, and (v - c)·(d - c) is at most 0 for the corners d before and after it
+abbrev pub cornerIsNearest : Corner → Corner → Corner → Corner → Bool
+cornerIsNearest v before c after =
+    not (same c v) && leZ (dot (c ⇀ v) (c ⇀ before)) (pos 0) && leZ (dot (c ⇀ v) (c ⇀ after)) (pos 0)
+
+-- v is strictly right of the edge from p to q, and its foot lies strictly between them
+abbrev pub edgeIsNearest : Corner → Corner → Corner → Bool
+edgeIsNearest v p q =
+    ltZ (side p q v) (pos 0) && ltZ (pos 0) (along p q v) && ltZ (along p q v) (squaredLength p q)
+
+abbrev pub isCorner : List Corner → Corner → ℕ → Bool
+isCorner cs v i = cornerIsNearest v (corner cs (previous (length cs) i)) (corner cs i) (corner cs (next (length cs) i))
+
+abbrev pub isEdge : List Corner → Corner → ℕ → Bool
+isEdge cs v i = edgeIsNearest v (corner cs i) (corner cs (next (length cs) i))
+
+-- corner i or edge i, or Within where neither is nearest
+abbrev pub featureAt : List Corner → Corner → ℕ → Feature
+featureAt cs v i = cond (isCorner cs v i) (AtCorner i) (cond (isEdge cs v i) (OnEdge i) Within)
+
+infixl 30 _orNext_
+abbrev pub _orNext_ : Feature → Feature → Feature
+Within orNext g = g
+AtCorner i orNext g = AtCorner i
+OnEdge i orNext g = OnEdge i
+
+-- what is found first at 0, 1, .. below n
+unfoldable pub firstOf : (ℕ → Feature) → ℕ → Feature
+firstOf found zero = Within
+firstOf found (suc n) = firstOf found n orNext found n
+
+unfoldable pub feature : List Corner → Corner → Feature
+feature cs v = firstOf (featureAt cs v) (length cs)
+
+abbrev pub nearest : List Corner → Corner → NearestPoint
+nearest cs v = answer cs v (feature cs v)

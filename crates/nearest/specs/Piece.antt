@@ -1,0 +1,40 @@
+-- Document 01: the piece, the region that is strictly right of no edge, its border included.
+--     edge, sideOf        the differences of edge i; the side number of a point against it
+--     InPiece, Outside    a point is in the piece, or it is not
+--     isOutside           the test of a point with whole coordinates
+use Prim.Native.Nat.{ℕ, zero, suc, _<_}
+use mathlib.Core.Bool.{Bool, false, _||_}
+use mathlib.Core.List.{List}
+use lib.IntN.{ℤ, pos}
+use lib.ListN.{length}
+use lib.Signed.{ltZ, _≤ℤ_}
+use Rattle.plane.specs.declared.Corner.{Corner}
+use Rattle.plane.specs.declared.Point.{Point}
+use Rattle.plane.specs.declared.Vector.{Vector}
+use Rattle.plane.specs.Point.{Proper, whole, _⇢_}
+use Rattle.plane.specs.Vector.{_⇀_, cross, side}
+use Rattle.outline.specs.Corners.{corner, next}
+
+-- edge i runs from corner i to the following one
+abbrev pub edge : List Corner → ℕ → Vector
+edge cs i = corner cs i ⇀ corner cs (next (length cs) i)
+
+-- times the point's lower number, which is above 0 and so keeps the sign
+abbrev pub sideOf : List Corner → ℕ → Point → ℤ
+sideOf cs i z = cross (edge cs i) (whole (corner cs i) ⇢ z)
+
+pub record InPiece (cs : List Corner) (z : Point) : Type 0 where
+  pub proper : Proper z
+  pub right-of-none : (i : ℕ) → i < length cs → pos 0 ≤ℤ sideOf cs i z
+
+abbrev pub Outside : List Corner → Point → Type 0
+Outside cs z = ¬ InPiece cs z
+
+-- a test holds of some number below n
+unfoldable pub any : (ℕ → Bool) → ℕ → Bool
+any test zero = false
+any test (suc n) = any test n || test n
+
+-- strictly right of some edge
+abbrev pub isOutside : List Corner → Corner → Bool
+isOutside cs v = any (λ i. ltZ (side (corner cs i) (corner cs (next (length cs) i)) v) (pos 0)) (length cs)
