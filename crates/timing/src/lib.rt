@@ -1,0 +1,70 @@
+// Calls for the benchmarks under bench/, which link them from C. `points` gives x and y of each point. Each answers the greatest
+// upper number of a gap, so that no work can be left out.
+use nearest::Answer;
+use outline::Outline;
+use outline::RefusedSide;
+use outline::Verdict;
+use outline::corners;
+use plane::Corner;
+ghost use Rattle.outline.specs.Convex.{IsOutline};
+
+fn greater(a: u64, b: u64) -> u64 {
+    if a < b { b } else { a }
+}
+
+// The upper number of the gap that the public call finds, or 0 where it refuses.
+fn called(v: Corner, s: &[i32]) -> u64 {
+    match calls::nearest_point(v, s) {
+        Answer::Found(a) => a.gap.upper,
+        Answer::Refused(_) => 0,
+    }
+}
+
+// The public call for each point: the outline is read each time.
+#[no_mangle]
+pub extern "C" fn timing_call(s: &[i32], points: &[i32]) -> u64 {
+    let n = corners::count(points);
+    let mut greatest = 0;
+    let mut i = 0;
+    while i < n {
+        greatest = greater(greatest, called(corners::corner(points, i), s));
+        i += 1;
+    }
+    greatest
+}
+
+// The upper number of the gap that the core finds, or 0 where the point is out of range.
+fn found(v: Corner, o: Outline) -> u64
+    requires { ⌜ IsOutline o ⌝ }
+{
+    if !plane::in_range(v) {
+        return 0;
+    }
+    let a = nearest::nearest(o, v);
+    a.gap.upper
+}
+
+// The core for each point of an outline that is held.
+fn each_found(o: Outline, points: &[i32]) -> u64
+    requires { ⌜ IsOutline o ⌝ }
+{
+    let n = corners::count(points);
+    let mut greatest = 0;
+    let mut i = 0;
+    while i < n {
+        greatest = greater(greatest, found(corners::corner(points, i), o));
+        i += 1;
+    }
+    greatest
+}
+
+// The core for each point: the outline is read once.
+#[no_mangle]
+pub extern "C" fn timing_core(s: &[i32], points: &[i32]) -> u64 {
+    let reading = outline::read(s, RefusedSide::NoSide);
+    let verdict = reading.verdict;
+    if let Verdict::Refused(_) = verdict {
+        return 0;
+    }
+    each_found(reading.outline, points)
+}
