@@ -1,13 +1,18 @@
 -- Document 01: the gap and the nearest point for each kind of feature, from a point v with whole coordinates. Nothing is reduced.
 --     withinAnswer, cornerAnswer, edgeAnswer    what is answered for each kind, from the corners that it speaks of
+--     edgeGap, footOn                           the two parts of the last, from the edge's start and differences
+--     squaredLength, along                      of an edge; how far along it the foot of a point lies
 --     answer                                    the same for a feature of an outline
 use Prim.Native.Nat.{ℕ}
 use mathlib.Core.List.{List}
 use lib.IntN.{ℤ, natAbs, _+ℤ_, _*ℤ_}
 use lib.ListN.{length}
+use Rattle.integers.specs.declared.fraction.Fraction.{Fraction}
 use Rattle.plane.specs.declared.Corner.{Corner}
+use Rattle.plane.specs.declared.Point.{Point}
+use Rattle.plane.specs.declared.Vector.{Vector}
 use Rattle.plane.specs.Point.{whole}
-use Rattle.plane.specs.Vector.{_⇀_, dot, side}
+use Rattle.plane.specs.Vector.{_⇀_, cross, dot}
 use Rattle.outline.specs.Corners.{corner, next}
 use Rattle.nearest.specs.declared.Feature.{Feature}
 use Rattle.nearest.specs.declared.Feature.the-variants.{Within, Corner as AtCorner, Edge as OnEdge}
@@ -25,6 +30,23 @@ cornerAnswer v i c = record {
   point = whole c;
 }
 
+-- The gap and the foot of a point on an edge. The edge starts at `start` and has the differences `run`; `to` are those from its start
+-- to the point, so cross run to is the side number: its square over the edge's squared length
+abbrev pub edgeGap : Vector → Vector → Fraction
+edgeGap run to = record { upper = natAbs (cross run to *ℤ cross run to); lower = natAbs (dot run run) }
+
+-- (L × p + t × (q - p)) / L, with L the squared length and t the dot of v - p and q - p
+abbrev pub footOn : Corner → Vector → Vector → Point
+footOn start run to = record {
+  x = dot run run *ℤ start .x +ℤ dot to run *ℤ run .x;
+  y = dot run run *ℤ start .y +ℤ dot to run *ℤ run .y;
+  lower = natAbs (dot run run);
+}
+
+-- edge i, from p to q; the gap and the point have the same lower number
+abbrev pub edgeAnswer : Corner → ℕ → Corner → Corner → NearestPoint
+edgeAnswer v i p q = record { feature = OnEdge i; gap = edgeGap (p ⇀ q) (p ⇀ v); point = footOn p (p ⇀ q) (p ⇀ v) }
+
 -- the squared length of the edge from p to q
 abbrev pub squaredLength : Corner → Corner → ℤ
 squaredLength p q = dot (p ⇀ q) (p ⇀ q)
@@ -32,18 +54,6 @@ squaredLength p q = dot (p ⇀ q) (p ⇀ q)
 -- how far along the edge the foot of v lies: 0 at p, the squared length at q
 abbrev pub along : Corner → Corner → Corner → ℤ
 along p q v = dot (p ⇀ v) (p ⇀ q)
-
--- edge i, from p to q: the square of the side number over the edge's squared length, and the foot over the same lower number
-abbrev pub edgeAnswer : Corner → ℕ → Corner → Corner → NearestPoint
-edgeAnswer v i p q = record {
-  feature = OnEdge i;
-  gap = record { upper = natAbs (side p q v *ℤ side p q v); lower = natAbs (squaredLength p q) };
-  point = record {
-    x = squaredLength p q *ℤ p .x +ℤ along p q v *ℤ (p ⇀ q) .x;
-    y = squaredLength p q *ℤ p .y +ℤ along p q v *ℤ (p ⇀ q) .y;
-    lower = natAbs (squaredLength p q);
-  };
-}
 
 abbrev pub answer : List Corner → Corner → Feature → NearestPoint
 answer cs v Within = withinAnswer v

@@ -6,11 +6,10 @@ use plane::Corner;
 use plane::Point;
 use plane::Vector;
 ghost use mathlib.Core.Path.{_≡_};
-ghost use lib.IntN.{natAbs, _+ℤ_, _*ℤ_};
+ghost use lib.IntN.{_+ℤ_, _*ℤ_};
 ghost use Rattle.integers.specs.Size.{AtMost};
-ghost use Rattle.plane.specs.Range.{InRange, Span, limit, reach};
-ghost use Rattle.plane.specs.Vector.{cross, dot};
-ghost use Rattle.nearest.specs.Feature.{withinAnswer, cornerAnswer, edgeAnswer};
+ghost use Rattle.plane.specs.Range.{InRange, Span, limit, reach, productLimit};
+ghost use Rattle.nearest.specs.Feature.{withinAnswer, cornerAnswer, edgeGap, footOn, edgeAnswer};
 
 // v is in the piece.
 pub fn within(v: Corner) -> NearestPoint
@@ -45,7 +44,7 @@ pub fn at_corner(v: Corner, i: usize, c: Corner) -> NearestPoint
 fn edge_gap(run: Vector, to: Vector) -> Fraction
     requires { ⌜ Span reach run ⌝ }
     requires { ⌜ Span reach to ⌝ }
-    ensures { λ r. ⌜ r ≡ record { upper = natAbs (cross run to *ℤ cross run to); lower = natAbs (dot run run) } ⌝ }
+    ensures { λ r. ⌜ r ≡ edgeGap run to ⌝ }
 {
     let side = plane::side(run, to);
     let length = plane::squared_length(run);
@@ -57,9 +56,9 @@ fn edge_gap(run: Vector, to: Vector) -> Fraction
 
 // A coordinate of the foot, times the edge's squared length: of the edge it has `start` and `run`, and the foot lies `along` it.
 fn coordinate(length: i64, start: i32, along: i64, run: i64) -> i64
-    requires { ⌜ AtMost 2048000000 length ⌝ }
+    requires { ⌜ AtMost productLimit length ⌝ }
     requires { ⌜ AtMost limit start ⌝ }
-    requires { ⌜ AtMost 2048000000 along ⌝ }
+    requires { ⌜ AtMost productLimit along ⌝ }
     requires { ⌜ AtMost reach run ⌝ }
     ensures { λ r. ⌜ r ≡ length *ℤ start +ℤ along *ℤ run ⌝ }
 {
@@ -72,9 +71,7 @@ fn foot(start: Corner, run: Vector, to: Vector) -> Point
     requires { ⌜ InRange start ⌝ }
     requires { ⌜ Span reach run ⌝ }
     requires { ⌜ Span reach to ⌝ }
-    ensures x { λ r. ⌜ r .x ≡ dot run run *ℤ start .x +ℤ dot to run *ℤ run .x ⌝ }
-    ensures y { λ r. ⌜ r .y ≡ dot run run *ℤ start .y +ℤ dot to run *ℤ run .y ⌝ }
-    ensures lower { λ r. ⌜ r .lower ≡ natAbs (dot run run) ⌝ }
+    ensures { λ r. ⌜ r ≡ footOn start run to ⌝ }
 {
     let length = plane::squared_length(run);
     let along = plane::dot(to, run);

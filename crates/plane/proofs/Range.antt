@@ -9,7 +9,7 @@ use mir.Val.{SFits}
 use Rattle.integers.specs.Size.{AtMost}
 use Rattle.integers.proofs.Machine.{atMost--, value, times, fits}
 use Rattle.plane.proofs.Arithmetic.{cross-is}
-use Rattle.plane.specs.Range.{InRange, Span, reach}
+use Rattle.plane.specs.Range.{InRange, Span, reach, productLimit}
 use Rattle.plane.specs.Vector.{_⇀_, side}
 use Rattle.plane.specs.declared.Corner.{Corner}
 use Rattle.plane.specs.declared.Vector.{Vector}
@@ -22,7 +22,7 @@ span-⇀ h k = record { x-size = atMost-- (k .x-size) (h .x-size); y-size = atMo
 pub span-difference : {p q : Corner} {v : Vector} → v ≡ p ⇀ q → InRange p → InRange q → Span reach v
 span-difference e h k = rw e (span-⇀ h k)
 
-pub atMost-side : {p q v : Corner} → InRange p → InRange q → InRange v → AtMost 2048000000 (side p q v)
+pub atMost-side : {p q v : Corner} → InRange p → InRange q → InRange v → AtMost productLimit (side p q v)
 atMost-side h k l = cross-is (span-⇀ h k) (span-⇀ h l) .bound
 
 pub square-fits : {p q v : Corner} → InRange p → InRange q → InRange v → SFits w64 (side p q v *ℤ side p q v)

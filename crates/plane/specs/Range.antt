@@ -3,6 +3,7 @@
 --     InRange    a point's coordinates are in that range; `inRange` decides it
 --     Span       each component of a vector is at most b in size
 --     reach      the most that two points in range differ by, in x or in y
+--     productLimit    document 01: a side number is at most 2,048,000,000 in size; so are dot products and squared lengths
 use Prim.Native.Nat.{ℕ, _+_}
 use mathlib.Core.Bool.{Bool, _&&_}
 use lib.Dec.{leb}
@@ -30,3 +31,6 @@ pub record Span (b : ℕ) (v : Vector) : Type 0 where
 
 abbrev pub reach : ℕ
 reach = limit + limit
+
+abbrev pub productLimit : ℕ
+productLimit = 2048000000

@@ -68,10 +68,11 @@ returns c =
     let at-dot = c .before .before .before .before .before .before in
     let (start, (run, to)) = at-dot .before .before .pre in
     let length = at-dot .before .squared-length .ensures in
-    let along = at-dot .dot .ensures in (
-      given run to length along (start .x-size) (run .x-size) (c .before .before .before .coordinate .ensures),
-      (given run to length along (start .y-size) (run .y-size) (c .coordinate2 .ensures), length-exact length run),
-    )
+    let along = at-dot .dot .ensures in
+    let x = given run to length along (start .x-size) (run .x-size) (c .before .before .before .coordinate .ensures) in
+    let y = given run to length along (start .y-size) (run .y-size) (c .coordinate2 .ensures) in
+    let lower = length-exact length run in
+    λ k. record { x = x k; y = y k; lower = lower k }
 
 pub foot-spec : {M : Type 1} → statement M
 foot-spec =

@@ -22,12 +22,8 @@ returns c =
     let run = c .before .before .before .difference .ensures in
     let to = c .before .before .difference2 .ensures in
     let gap = rw (run, to) at (c .before .edge-gap .ensures) in
-    let (x, (y, lower)) = c .foot .ensures in
-    λ k. record {
-      feature = OnEdge (c .before .before .before .before .args .i);
-      gap = gap k;
-      point = record { x = (rw (run, to) at x) k; y = (rw (run, to) at y) k; lower = (rw run at lower) k };
-    }
+    let point = rw (run, to) at (c .foot .ensures) in
+    λ k. record { feature = OnEdge (c .before .before .before .before .args .i); gap = gap k; point = point k }
 
 pub on-edge-spec : {M : Type 1} → statement M
 on-edge-spec =
