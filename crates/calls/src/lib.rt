@@ -1,5 +1,5 @@
 // The public calls. Each may be handed any list of any numbers: it does its own checking and has no `requires`.
-use nearest::Answer;
+use nearest::NearestAnswer;
 use outline::Check;
 use outline::Fault;
 use outline::Reading;
@@ -36,16 +36,19 @@ pub fn remove_corner(s: &[i32], k: usize, out: &mut [i32]) -> Verdict
 
 // Finds the nearest point, to the point v, of the outline that the list `s` gives.
 // Refusals 1 to 6 for the outline, then 7.
-pub fn nearest_point(v: Corner, s: &[i32]) -> Answer
+pub fn nearest_point(v: Corner, s: &[i32]) -> NearestAnswer
     ensures { λ r. ⌜ r ≡ nearestAnswer v (now (s .entry)) ⌝ }
 {
     let reading = outline::read(s, RefusedSide::NoSide);
     let verdict = reading.verdict;
     if let Verdict::Refused(refusal) = verdict {
-        return Answer::Refused(refusal);
+        return NearestAnswer::Refused(refusal);
     }
     if !plane::in_range(v) {
-        return Answer::Refused(refusals::refusal(RefusedSide::NoSide, Fault::PointOutOfRange));
+        return NearestAnswer::Refused(refusals::refusal(
+            RefusedSide::NoSide,
+            Fault::PointOutOfRange,
+        ));
     }
-    Answer::Found(nearest::nearest(reading.outline, v))
+    NearestAnswer::Found(nearest::nearest(reading.outline, v))
 }

@@ -1,5 +1,4 @@
 -- The answer that the local tests find is the one that document 01 lays down, for every polygon and every whole point.
---     Tested                       the test of a feature holds; of Within: no test holds
 --     feature-tested               the feature found is one whose test holds
 --     tested-answers               such a feature gives an answer that document 01 lays down, so there is one
 --     answers-iff                  there is only one: `nearest`
@@ -26,9 +25,9 @@ use Rattle.outline.proofs.CornersLaws.{next-below, previous-next}
 use Rattle.nearest.specs.declared.Feature.{Feature}
 use Rattle.nearest.specs.declared.Feature.the-variants.{Within, Corner as AtCorner, Edge as OnEdge}
 use Rattle.nearest.specs.declared.NearestPoint.{NearestPoint}
-use Rattle.nearest.specs.Feature.{squaredLength, along, answer}
+use Rattle.nearest.specs.Feature.{squaredLength, along, values}
 use Rattle.nearest.specs.Nearest.{SquaredDistance, Answers}
-use Rattle.nearest.specs.Local.{isCorner, isEdge, featureAt, feature, nearest}
+use Rattle.nearest.specs.Local.{isCorner, isEdge, Tested, featureAt, feature, nearest}
 use Rattle.nearest.proofs.FirstOf.{firstOf-found}
 use Rattle.nearest.proofs.DistanceLaws.{Known, squared-distance}
 use Rattle.nearest.proofs.FitsLaws.{fits-unique}
@@ -36,11 +35,6 @@ use Rattle.nearest.proofs.LocalLaws.{corner-nearest, edge-nearest, none
 use Rattle.nearest.proofs.Walk.{corner-test, square-at-start, square-at-end}
 use Rattle.nearest.proofs.Support.{turns-left}
 use Rattle.nearest.proofs.NearestLaws.{nearest-self, nearest-unique}
-
-abbrev pub Tested : List Corner → Corner → Feature → Type 0
-Tested cs v Within = (i : ℕ) → i < length cs → (isCorner cs v i ≡ false) × (isEdge cs v i ≡ false)
-Tested cs v (AtCorner i) = (i < length cs) × (isCorner cs v i ≡ true)
-Tested cs v (OnEdge i) = (i < length cs) × (isEdge cs v i ≡ true)
 
 -- what is found at corner i, by the answers of its two tests
 abbrev found : ℕ → Bool → Bool → Feature
@@ -65,10 +59,10 @@ module _ (cs : List Corner) (v : Corner) where
       (λ (i, below, first, some). subst (Tested cs v) (sym first) (found-some i below (isCorner cs v i) (isEdge cs v i) refl refl some))
       (firstOf-found (featureAt cs v) (length cs))
 
-answer-feature : (cs : List Corner) (v : Corner) (f : Feature) → answer cs v f .feature ≡ f
-answer-feature cs v Within = refl
-answer-feature cs v (AtCorner i) = refl
-answer-feature cs v (OnEdge i) = refl
+values-feature : (cs : List Corner) (v : Corner) (f : Feature) → values cs v f .feature ≡ f
+values-feature cs v Within = refl
+values-feature cs v (AtCorner i) = refl
+values-feature cs v (OnEdge i) = refl
 
 tested-known : (cs : List Corner) (v : Corner) (f : Feature) → Tested cs v f → Known cs f
 tested-known cs v Within holds = tt
@@ -76,7 +70,7 @@ tested-known cs v (AtCorner i) holds = holds .0
 tested-known cs v (OnEdge i) holds = holds .0
 
 module _ {cs : List Corner} (polygon : Polygon cs) (v : Corner) where
-  pub tested-answers : (f : Feature) → Tested cs v f → Answers cs v (answer cs v f)
+  pub tested-answers : (f : Feature) → Tested cs v f → Answers cs v (values cs v f)
   tested-answers Within none =
       let inside = none-holds polygon v (λ i below. none i below .0) (λ i below. none i below .1) in
       record { nearest = nearest-self inside; fits = (inside, same-refl (whole v)); written = refl }
@@ -96,10 +90,10 @@ module _ {cs : List Corner} (polygon : Polygon cs) (v : Corner) where
       only : Answers cs v a → a ≡ nearest cs v
       only other =
           other .written
-          ∙ ap (answer cs v)
+          ∙ ap (values cs v)
           (fits-unique polygon (whole v) (a .feature) (nearest cs v .feature) (other .nearest .in-piece) (this .nearest .in-piece)
           (nearest-unique polygon (whole-proper v) (other .nearest) (this .nearest)) (other .fits) (this .fits)
-          ∙ answer-feature cs v (feature cs v))
+          ∙ values-feature cs v (feature cs v))
 
   pub nearest-distance : SquaredDistance (whole v) (nearest cs v .point) (nearest cs v .gap)
   nearest-distance = squared-distance polygon v (feature cs v) (tested-known cs v (feature cs v) (feature-tested cs v))
@@ -107,16 +101,16 @@ module _ {cs : List Corner} (polygon : Polygon cs) (v : Corner) where
   pub feature-iff : (f : Feature) → (feature cs v ≡ f) ↔ Tested cs v f
   feature-iff f = (
     λ is. subst (Tested cs v) is (feature-tested cs v),
-    λ holds. sym (answer-feature cs v (feature cs v))
-        ∙ ap (λ (a : NearestPoint). a .feature) (sym (answers-iff (answer cs v f) .0 (tested-answers f holds))) ∙ answer-feature cs v f,
+    λ holds. sym (values-feature cs v (feature cs v))
+        ∙ ap (λ (a : NearestPoint). a .feature) (sym (answers-iff (values cs v f) .0 (tested-answers f holds))) ∙ values-feature cs v f,
   )
 
-  pub local-agrees : (f : Feature) → Tested cs v f ↔ Answers cs v (answer cs v f)
+  pub local-agrees : (f : Feature) → Tested cs v f ↔ Answers cs v (values cs v f)
   local-agrees f = (
     tested-answers f,
     λ is. feature-iff f .0
-        (sym (answer-feature cs v (feature cs v)) ∙ ap (λ (a : NearestPoint). a .feature) (sym (answers-iff (answer cs v f) .0 is))
-        ∙ answer-feature cs v f),
+        (sym (values-feature cs v (feature cs v)) ∙ ap (λ (a : NearestPoint). a .feature) (sym (answers-iff (values cs v f) .0 is))
+        ∙ values-feature cs v f),
   )
 
   module _ (i : ℕ) (below : i < length cs) where

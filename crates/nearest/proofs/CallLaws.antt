@@ -29,7 +29,7 @@ use Rattle.outline.specs.Refusal.{refusal, verdict}
 use Rattle.outline.proofs.ChecksLaws.{orElse-passed, orElse-failed, failIf-passed, failIf-failed}
 use Rattle.outline.proofs.ReadingLaws.{reading-outline, reading-cornersOf}
 use Rattle.outline.proofs.RefusalLaws.{refusal-injective, verdict-taken}
-use Rattle.nearest.specs.declared.Answer.the-variants.{Found, Refused}
+use Rattle.nearest.specs.declared.NearestAnswer.the-variants.{Found, Refused}
 use Rattle.nearest.specs.declared.NearestPoint.{NearestPoint}
 use Rattle.nearest.specs.Call.{pointCheck, answerFor, nearestAnswer}
 use Rattle.nearest.specs.Local.{nearest}

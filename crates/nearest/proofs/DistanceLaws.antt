@@ -29,7 +29,7 @@ use Rattle.outline.specs.Corners.{corner}
 use Rattle.nearest.specs.declared.Feature.{Feature}
 use Rattle.nearest.specs.declared.Feature.the-variants.{Within, Corner as AtCorner, Edge as OnEdge}
 use Rattle.nearest.specs.Piece.{edge}
-use Rattle.nearest.specs.Feature.{answer}
+use Rattle.nearest.specs.Feature.{values}
 use Rattle.nearest.specs.Nearest.{SquaredDistance}
 use Rattle.nearest.proofs.LocalLaws.{length-above-0}
 
@@ -65,7 +65,7 @@ foot-distance p e v square length =
 
 module _ {cs : List Corner} (polygon : Polygon cs) (v : Corner) where
   -- the gap and the point have the same lower number, 1 or an edge's squared length
-  lowers : (f : Feature) → Known cs f → (pos 0 <ℤ pos (answer cs v f .gap .lower)) × Proper (answer cs v f .point)
+  lowers : (f : Feature) → Known cs f → (pos 0 <ℤ pos (values cs v f .gap .lower)) × Proper (values cs v f .point)
   lowers Within known = (whole-proper v, whole-proper v)
   lowers (AtCorner i) known = (whole-proper v, whole-proper v)
   lowers (OnEdge i) known =
@@ -74,8 +74,8 @@ module _ {cs : List Corner} (polygon : Polygon cs) (v : Corner) where
       (long, long)
 
   equal : (f : Feature)
-      → pos (answer cs v f .gap .upper) *ℤ (pos (answer cs v f .point .lower) *ℤ pos 1) *ℤ (pos (answer cs v f .point .lower) *ℤ pos 1)
-      ≡ dot (answer cs v f .point ⇢ whole v) (answer cs v f .point ⇢ whole v) *ℤ pos (answer cs v f .gap .lower)
+      → pos (values cs v f .gap .upper) *ℤ (pos (values cs v f .point .lower) *ℤ pos 1) *ℤ (pos (values cs v f .point .lower) *ℤ pos 1)
+      ≡ dot (values cs v f .point ⇢ whole v) (values cs v f .point ⇢ whole v) *ℤ pos (values cs v f .gap .lower)
   unfolding dot _⇀_ _⇢_
   equal Within = whole-distance v v (solve (coordinates (v ∷ [])) O (dotE (vec 0 ⇀E vec 0) (vec 0 ⇀E vec 0)) tt)
   equal (AtCorner i) = whole-distance (corner cs i) v (natAbs-nonneg (dot-self (corner cs i ⇀ v)))
@@ -83,15 +83,15 @@ module _ {cs : List Corner} (polygon : Polygon cs) (v : Corner) where
       foot-distance (corner cs i) (edge cs i) v
       (natAbs-nonneg (square-nonneg (cross (edge cs i) (corner cs i ⇀ v)))) (natAbs-nonneg (dot-self (edge cs i)))
 
-  pub squared-distance : (f : Feature) → Known cs f → SquaredDistance (whole v) (answer cs v f .point) (answer cs v f .gap)
-  squared-distance f known = record { proper = lowers f known .1; lower-positive = lowers f known .0; equal = equal f }
+  pub squared-distance : (f : Feature) → Known cs f → SquaredDistance (whole v) (values cs v f .point) (values cs v f .gap)
+  squared-distance f known = record { proper = (whole-proper v, lowers f known .1); lower-positive = lowers f known .0; equal = equal f }
 
 ≤-≤ℤ : (a b : ℕ) → (a ≤ b) ↔ (pos a ≤ℤ pos b)
 ≤-≤ℤ a b = Iff·trans (Iff·symm (test-leb a b)) (test-leZ (pos a) (pos b))
 
 -- With a/k and b/l the fractions, d and e the squared distances times the squares of the lower numbers r and t, s and t: the cross
 -- products a l and b k, times (r s t)², are the two sides of `NotFarther`, times k l.
-module _ {v y z : Point} {g h : Fraction} (proper : Proper v) (at-y : SquaredDistance v y g) (at-z : SquaredDistance v z h) where
+module _ {v y z : Point} {g h : Fraction} (at-y : SquaredDistance v y g) (at-z : SquaredDistance v z h) where
   pub gap-order : (g .upper * h .lower ≤ h .upper * g .lower) ↔ NotFarther v y z
   gap-order =
       let a = var 0 in let k = var 1 in let b = var 2 in let l = var 3 in
@@ -102,7 +102,7 @@ module _ {v y z : Point} {g h : Fraction} (proper : Proper v) (at-y : SquaredDis
       ∷ O ≺ k ∷ O ≺ l ∷ O ≺ r ∷ O ≺ s ∷ O ≺ t ∷ c ∷ [] in
       let from : (c goal : Claim) (w : Cert) → T (proves (known c) goal w) → Holds numbers c → Holds numbers goal = λ c goal w sound.
       prove numbers (known c) goal w sound (at-y .equal) (at-z .equal)
-      (at-y .lower-positive) (at-z .lower-positive) (at-y .proper) (at-z .proper) proper in
+      (at-y .lower-positive) (at-z .lower-positive) (at-y .proper .1) (at-z .proper .1) (at-y .proper .0) in
       let at-most = a ⊗ l ≼ b ⊗ k in let not-farther = d ⊗ (s ⊗ s) ≼ e ⊗ (r ⊗ r) in
       Iff·trans (≤-≤ℤ (g .upper * h .lower) (h .upper * g .lower)) (
         from at-most not-farther
@@ -111,8 +111,8 @@ module _ {v y z : Point} {g h : Fraction} (proper : Proper v) (at-y : SquaredDis
             (hyp 0 ⊠ hyp 5 ⊠ hyp 5 ⊠ hyp 6 ⊠ hyp 6 ⊠ hyp 7 ⊠ hyp 7 ⊞ hyp 8 ⊠ hyp 3 ⊠ hyp 4 ⊞ eqn 1 (l ⊗ s ⊗ s) ⊞ eqn 2 (⊝ (k ⊗ r ⊗ r))) tt,
       )
 
-pub gap-order-strict : {v y z : Point} {g h : Fraction} → Proper v → SquaredDistance v y g → SquaredDistance v z h
+pub gap-order-strict : {v y z : Point} {g h : Fraction} → SquaredDistance v y g → SquaredDistance v z h
     → (g .upper * h .lower < h .upper * g .lower) ↔ Nearer v y z
-gap-order-strict proper at-y at-z =
-    let back = gap-order proper at-z at-y in
+gap-order-strict at-y at-z =
+    let back = gap-order at-z at-y in
     (λ less. ≰ℤ-<ℤ (λ h. not-le-of-lt less (back .1 h)), λ nearer. lt-of-not-le (λ h. clashℤ nearer (back .0 h)))

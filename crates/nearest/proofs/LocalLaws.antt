@@ -4,16 +4,17 @@
 --     corner-nearest    a corner whose test holds is the nearest point, and v is outside the piece
 --     edge-nearest      an edge whose test holds has the nearest point strictly between its ends, and v is outside the piece
 --     none-holds        where no test holds, v is in the piece
+--     corner-visible    a corner whose test holds is an end of an edge that v is strictly right of
 use Prim.Native.Nat.{ℕ, _<_}
 use mathlib.Core.Path.{_≡_, refl, subst}
-use mathlib.Core.Logic.{_↔_, inl, inr}
-use mathlib.Core.Bool.{true, false}
+use mathlib.Core.Logic.{_↔_, _⊎_, inl, inr}
+use mathlib.Core.Bool.{Bool, true, false}
 use mathlib.Core.List.{List, [], _∷_}
 use native.Mathlib.Omega.{arith}
 use lib.IntN.{ℤ, pos, natAbs, _+ℤ_, _*ℤ_}
 use lib.ListN.{length}
 use lib.Signed.{_≤ℤ_, _<ℤ_, clashℤ, yes-nonNeg, pos-natAbs}
-use Rattle.integers.proofs.Order.{<ℤ-≤ℤ, ≮ℤ-≤ℤ}
+use Rattle.integers.proofs.Order.{ltZ-false, <ℤ-≤ℤ, ≮ℤ-≤ℤ}
 use Rattle.integers.proofs.Reflect.{false-not}
 use Rattle.integers.proofs.Certificate.{_≺_, _≼_, _≗_, hyp, sq, _⊞_, _⊠_, prove}
 use Rattle.plane.specs.declared.Corner.{Corner}
@@ -21,16 +22,17 @@ use Rattle.plane.specs.declared.Point.{Point}
 use Rattle.plane.specs.declared.Vector.{Vector}
 use Rattle.plane.specs.Point.{whole}
 use Rattle.plane.specs.Vector.{_⇀_, cross, dot, side, coordinates}
-use Rattle.plane.proofs.Algebra.{O, vec, crossE, dotE, _⇀E_, components, dot-self}
+use Rattle.plane.proofs.Algebra.{O, vec, crossE, dotE, _⇀E_, components, dot-self, dot-back, side-end}
+use Rattle.plane.proofs.Cone.{cone}
 use Rattle.plane.proofs.Points.{whole-⇢}
 use Rattle.outline.specs.Convex.{Polygon}
 use Rattle.outline.specs.Corners.{corner, next, previous}
 use Rattle.outline.proofs.CornersLaws.{next-below, previous-below, next-previous, previous-next}
 use Rattle.nearest.specs.declared.Feature.the-variants.{Edge as OnEdge}
 use Rattle.nearest.specs.Piece.{InPiece, Outside, isOutside}
-use Rattle.nearest.specs.Feature.{squaredLength, along, answer}
+use Rattle.nearest.specs.Feature.{squaredLength, along, values}
 use Rattle.nearest.specs.Nearest.{Nearest, Between}
-use Rattle.nearest.specs.Local.{isCorner, isEdge}
+use Rattle.nearest.specs.Local.{isRight, isCorner, isEdge}
 use Rattle.nearest.proofs.PieceLaws.{whole-in-piece, inside-test}
 use Rattle.nearest.proofs.Support.{corner-in-piece, turns-left, corner-cone}
 use Rattle.nearest.proofs.Foot.{foot-left, foot-on-line, foot-after, foot-before, foot-bound}
@@ -80,13 +82,13 @@ module _ {cs : List Corner} (polygon : Polygon cs) (v : Corner) where
 
   -- the nearest point is the foot of v on the edge: the answer's point, with n for the edge's squared length
   pub edge-nearest : (i : ℕ) → i < length cs → isEdge cs v i ≡ true
-      → Nearest cs (whole v) (answer cs v (OnEdge i) .point) × Between cs i (answer cs v (OnEdge i) .point) × Outside cs (whole v)
+      → Nearest cs (whole v) (values cs v (OnEdge i) .point) × Between cs i (values cs v (OnEdge i) .point) × Outside cs (whole v)
   edge-nearest i below holds =
       let p = corner cs i in
       let q = corner cs (next (length cs) i) in
       let t = along p q v in
       let n = natAbs (squaredLength p q) in
-      let ((visible, after), before) = edge-test v p q .0 holds in
+      let (visible, (after, before)) = edge-test v p q .0 holds in
       let long = length-above-0 i below in
       let is-n : pos n ≡ squaredLength p q = pos-natAbs _ (yes-nonNeg (<ℤ-≤ℤ long)) in
       let long-n : pos 0 <ℤ pos n = rw is-n long in
@@ -139,3 +141,25 @@ module _ {cs : List Corner} (polygon : Polygon cs) (v : Corner) where
             | inr end ↦ not-forth (next n i)
                 (next-below n i (omega arith), rw (previous-next n i below) (record { visible = visible; behind = end }))
           ]
+
+  -- Were v right of neither edge at the corner, it would be in the cone there, and the test says that only the corner is.
+  pub corner-visible : (i : ℕ) → i < length cs → isCorner cs v i ≡ true
+      → (isRight v (corner cs i) (corner cs (next (length cs) i)) ≡ true) ⊎ (isRight v (corner cs (previous (length cs) i)) (corner cs i) ≡ true)
+  corner-visible i below holds = by-tests (isRight v c after) (isRight v before c) refl refl
+    where
+      before : Corner
+      before = corner cs (previous (length cs) i)
+
+      c : Corner
+      c = corner cs i
+
+      after : Corner
+      after = corner cs (next (length cs) i)
+
+      by-tests : (a b : Bool) → isRight v c after ≡ a → isRight v before c ≡ b → (a ≡ true) ⊎ (b ≡ true)
+      by-tests true b _ _ = inl refl
+      by-tests false true _ _ = inr refl
+      by-tests false false out into =
+          let ((other, behind), ahead) = corner-test v before c after .0 holds in
+          absurd (other (apart-0 c v (cone (before ⇀ c) (c ⇀ after) (c ⇀ v) (c ⇀ v) (turns-left polygon i below)
+          (rw (side-end before c v) at (ltZ-false {a = side before c v} {b = pos 0} into)) (ltZ-false {a = side c after v} {b = pos 0} out) (dot-back (c ⇀ v) c before behind) ahead)))

@@ -1,13 +1,11 @@
--- Points at V/D. Times D, the outline is a larger one and V a whole point of the plane, so every law about whole points speaks of V/D too.
---     scaled, enlarged    a corner, a list of corners, times k
---     shrunk              a point over k
+-- Points at V/D. Times D, the outline is a larger one and V has whole coordinates, so every law about such points speaks of V/D too: those
+-- about the local tests, a foot on an end and the exhaustive search as they stand, for the larger list.
 --     scaled-polygon      the larger list is a polygon
 --     scaled-piece        a point is in its piece exactly where the shrunk point is in the piece
 --     scaled-nearest      its nearest point to V, shrunk, is the nearest point to V/D
 --     scaled-fits         and the feature is the same
 --     scaled-distance     the gap, over k², is the squared distance
---     nearestAt           so every point V/D has a nearest point, feature and gap: those of V in the larger list
---     nearestAt-is, nearestAt-fits, nearestAt-distance    they are what document 01 says they are
+--     nearestAt-is, nearestAt-fits, nearestAt-distance    so every point V/D has a nearest point, feature and gap: those of V, over D
 use Prim.Native.Nat.{ℕ, _*_, _<_}
 use native.Mathlib.Nat.{one-mul}
 use mathlib.Core.Path.{_≡_, refl, sym, ap, _∙_}
@@ -33,21 +31,9 @@ use Rattle.nearest.specs.declared.Feature.{Feature}
 use Rattle.nearest.specs.declared.Feature.the-variants.{Within, Corner as AtCorner, Edge as OnEdge}
 use Rattle.nearest.specs.declared.NearestPoint.{NearestPoint}
 use Rattle.nearest.specs.Local.{nearest}
+use Rattle.nearest.specs.Scaling.{scaled, enlarged, shrunk, over, numerator, nearestAt}
 use Rattle.nearest.specs.Nearest.{Nearest, Fits, SquaredDistance, Answers}
 use Rattle.nearest.proofs.AnswerLaws.{answers-iff, nearest-distance}
-
-abbrev pub scaled : ℕ → Corner → Corner
-scaled k c = record { x = pos k *ℤ c .x; y = pos k *ℤ c .y }
-
--- v/k
-abbrev pub over : ℕ → Corner → Point
-over k v = record { x = v .x; y = v .y; lower = k }
-
-abbrev pub enlarged : ℕ → List Corner → List Corner
-enlarged k cs = map (scaled k) cs
-
-abbrev pub shrunk : ℕ → Point → Point
-shrunk k z = record { x = z .x; y = z .y; lower = z .lower * k }
 
 -- signs of a product by a number above 0
 factor-pos : {k z : ℤ} → pos 0 <ℤ k → pos 0 <ℤ (k *ℤ z) → pos 0 <ℤ z
@@ -148,7 +134,7 @@ module _ (k : ℕ) where
       let from = yE ⇢E wholeE vE in let to = shrunkE kE yE ⇢E record { x = vE .x; y = vE .y; lower = kE } in
       let d = yE .lower ⊗ lit (pos 1) in let dk = (yE .lower ⊗ kE) ⊗ kE in
       record {
-        proper = *ℤ-pos (is .proper) above;
+        proper = (above, *ℤ-pos (is .proper .1) above);
         lower-positive = *ℤ-pos (is .lower-positive) (*ℤ-pos above above);
         equal = prove (coordinates (v ∷ []) ++ numbers (y ∷ []) ++ (pos (g .upper) ∷ pos (g .lower) ∷ pos k ∷ []))
             ((upper ⊗ d) ⊗ d ≗ dotE from from ⊗ lower ∷ []) ((upper ⊗ dk) ⊗ dk ≗ dotE to to ⊗ (lower ⊗ (kE ⊗ kE)))
@@ -220,17 +206,6 @@ module _ (k : ℕ) (cs : List Corner) where
             (rw (length-enlarged, corner-enlarged i, corner-enlarged (next (length cs) i)) at (between .before-end)));
       },
     )
-
--- the answer for V/D is that for V in the larger list, over D
-abbrev pub numerator : Point → Corner
-numerator v = record { x = v .x; y = v .y }
-
-abbrev pub nearestAt : List Corner → Point → NearestPoint
-nearestAt cs v = let a = nearest (enlarged (v .lower) cs) (numerator v) in record {
-  feature = a .feature;
-  gap = record { upper = a .gap .upper; lower = a .gap .lower * (v .lower * v .lower) };
-  point = shrunk (v .lower) (a .point);
-}
 
 module _ {cs : List Corner} (polygon : Polygon cs) (v : Point) (proper : Proper v) where
   larger : Polygon (enlarged (v .lower) cs)

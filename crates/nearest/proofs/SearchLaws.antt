@@ -30,16 +30,16 @@ use Rattle.nearest.specs.declared.Feature.{Feature}
 use Rattle.nearest.specs.declared.Feature.the-variants.{Within, Corner as AtCorner, Edge as OnEdge}
 use Rattle.nearest.specs.declared.NearestPoint.{NearestPoint}
 use Rattle.nearest.specs.Piece.{InPiece, Outside, isOutside}
-use Rattle.nearest.specs.Feature.{answer}
+use Rattle.nearest.specs.Feature.{values}
 use Rattle.nearest.specs.Nearest.{Fits, SquaredDistance}
-use Rattle.nearest.specs.Local.{isEdge, feature, nearest}
+use Rattle.nearest.specs.Local.{isEdge, Tested, feature, nearest}
 use Rattle.nearest.specs.Search.{within, triedCorners, triedEdges, tried, isLess, least, leastOf, search}
 use Rattle.nearest.proofs.Support.{corner-in-piece}
 use Rattle.nearest.proofs.NearestLaws.{others-farther}
 use Rattle.nearest.proofs.LocalLaws.{outside-test, edge-nearest}
 use Rattle.nearest.proofs.FitsLaws.{fits-unique}
 use Rattle.nearest.proofs.DistanceLaws.{squared-distance, gap-order-strict}
-use Rattle.nearest.proofs.AnswerLaws.{Tested, feature-tested, tested-answers}
+use Rattle.nearest.proofs.AnswerLaws.{feature-tested, tested-answers}
 
 -- What holds of b and of a holds of the one that a test picks.
 picked : (P : NearestPoint → Type 0) (t : Bool) (b a : NearestPoint) → P b → P a → P (cond t b a)
@@ -109,10 +109,10 @@ Tried cs v (OnEdge i) = (i < length cs) × (isEdge cs v i ≡ true)
 module _ (cs : List Corner) (v : Corner) where
   -- what is tried at corner i, and at edge i
   cornerAt : ℕ → List NearestPoint
-  cornerAt i = answer cs v (AtCorner i) ∷ []
+  cornerAt i = values cs v (AtCorner i) ∷ []
 
   edgeAt : ℕ → List NearestPoint
-  edgeAt i = cond (isEdge cs v i) (answer cs v (OnEdge i) ∷ []) []
+  edgeAt i = cond (isEdge cs v i) (values cs v (OnEdge i) ∷ []) []
 
   corners-tried : (a : NearestPoint) → List·Memᴰ a (triedCorners cs v (length cs)) ↔ ((i : ℕ) × (i < length cs) × List·Memᴰ a (cornerAt i))
   unfolding triedCorners cornerAt
@@ -122,7 +122,7 @@ module _ (cs : List Corner) (v : Corner) where
   unfolding triedEdges edgeAt
   edges-tried a = parts (triedEdges cs v) edgeAt refl (λ n. refl) (length cs) a
 
-  tried-is : (a : NearestPoint) → List·Memᴰ a (tried cs v) → (g : Feature) × Tried cs v g × (a ≡ answer cs v g)
+  tried-is : (a : NearestPoint) → List·Memᴰ a (tried cs v) → (g : Feature) × Tried cs v g × (a ≡ values cs v g)
   unfolding tried cornerAt edgeAt
   tried-is a there =
       ⊎-elim (λ among. let (i, below, here) = corners-tried a .0 among in (AtCorner i, below, List·Memᴰ·eq-of-singleton here))
@@ -130,7 +130,7 @@ module _ (cs : List Corner) (v : Corner) where
       let (holds, is) = from-test (isEdge cs v i) here in (OnEdge i, (below, holds), is))
       (List·Memᴰ·append-cases (triedCorners cs v (length cs)) there)
 
-  is-tried : (g : Feature) → Tried cs v g → List·Memᴰ (answer cs v g) (tried cs v)
+  is-tried : (g : Feature) → Tried cs v g → List·Memᴰ (values cs v g) (tried cs v)
   unfolding tried cornerAt edgeAt
   is-tried Within none = absurd none
   is-tried (AtCorner i) below = Memᴰ·append-left (triedEdges cs v (length cs)) (corners-tried _ .1 (i, below, List·Memᴰ·head refl))
@@ -146,9 +146,9 @@ same? y z = go (ℤ-discrete _ _) (ℤ-discrete _ _)
     go (no other) y = no (λ same. other (same .same-x))
 
 record Candidate (cs : List Corner) (v : Corner) (g : Feature) : Type 0 where
-  in-piece : InPiece cs (answer cs v g .point)
-  fits : Fits cs (whole v) (answer cs v g .point) g
-  measured : SquaredDistance (whole v) (answer cs v g .point) (answer cs v g .gap)
+  in-piece : InPiece cs (values cs v g .point)
+  fits : Fits cs (whole v) (values cs v g .point) g
+  measured : SquaredDistance (whole v) (values cs v g .point) (values cs v g .gap)
 
 module _ {cs : List Corner} (polygon : Polygon cs) (v : Corner) where
   candidate : Outside cs (whole v) → (g : Feature) → Tried cs v g → Candidate cs v g
@@ -165,11 +165,11 @@ module _ {cs : List Corner} (polygon : Polygon cs) (v : Corner) where
   }
 
   -- One point is one feature only, so another candidate is another point, and that is strictly farther.
-  no-better : (f g : Feature) → Tested cs v f → Candidate cs v f → Candidate cs v g → NoBetter (answer cs v f) (answer cs v g)
+  no-better : (f g : Feature) → Tested cs v f → Candidate cs v f → Candidate cs v g → NoBetter (values cs v f) (values cs v g)
   no-better f g holds c d =
-      elim (same? (answer cs v f .point) (answer cs v g .point)) [
-        | yes same ↦ inl (ap (answer cs v) (sym (fits-unique polygon (whole v) f g (c .in-piece) (d .in-piece) same (c .fits) (d .fits))))
-        | no other ↦ inr (gap-order-strict (whole-proper v) (c .measured) (d .measured) .1
+      elim (same? (values cs v f .point) (values cs v g .point)) [
+        | yes same ↦ inl (ap (values cs v) (sym (fits-unique polygon (whole v) f g (c .in-piece) (d .in-piece) same (c .fits) (d .fits))))
+        | no other ↦ inr (gap-order-strict (c .measured) (d .measured) .1
             (others-farther polygon (whole-proper v) (tested-answers polygon v f holds .nearest) (d .in-piece) other))
       ]
 
@@ -179,7 +179,7 @@ module _ {cs : List Corner} (polygon : Polygon cs) (v : Corner) where
   found-tried outside (AtCorner i) holds = holds .0
   found-tried outside (OnEdge i) holds = holds
 
-  found-within : ¬ Outside cs (whole v) → (f : Feature) → Tested cs v f → within v ≡ answer cs v f
+  found-within : ¬ Outside cs (whole v) → (f : Feature) → Tested cs v f → within v ≡ values cs v f
   found-within inside Within holds = refl
   found-within inside (AtCorner i) holds = absurd (inside (tested-answers polygon v (AtCorner i) holds .fits .0))
   found-within inside (OnEdge i) holds = absurd (inside (tested-answers polygon v (OnEdge i) holds .fits .0))

@@ -38,8 +38,8 @@ corner-test v before c after =
     test-and _ _ (test-and _ _ (test-not _ (same-true c v)) (test-leZ _ _)) (test-leZ _ _)
 
 pub edge-test : (v p q : Corner)
-    → (edgeIsNearest v p q ≡ true) ↔ (((side p q v <ℤ pos 0) × (pos 0 <ℤ along p q v)) × (along p q v <ℤ squaredLength p q))
-edge-test v p q = test-and _ _ (test-and _ _ (ltZ-true, <ℤ-ltZ) (ltZ-true, <ℤ-ltZ)) (ltZ-true, <ℤ-ltZ)
+    → (edgeIsNearest v p q ≡ true) ↔ ((side p q v <ℤ pos 0) × ((pos 0 <ℤ along p q v) × (along p q v <ℤ squaredLength p q)))
+edge-test v p q = test-and _ _ (ltZ-true, <ℤ-ltZ) (test-and _ _ (ltZ-true, <ℤ-ltZ) (ltZ-true, <ℤ-ltZ))
 
 pub record PastEnd (v p q : Corner) : Type 0 where
   pub visible : side p q v <ℤ pos 0
@@ -63,7 +63,7 @@ visible-past v p q visible fails =
       | inl start ↦ inl start
       | inr after ↦ elim (≤ℤ-or-<ℤ (squaredLength p q) (along p q v)) [
         | inl end ↦ inr (past-length v p q end)
-        | inr before ↦ absurd (test-false _ (edge-test v p q) .0 fails ((visible, after), before))
+        | inr before ↦ absurd (test-false _ (edge-test v p q) .0 fails (visible, (after, before)))
       ]
     ]
 

@@ -14,17 +14,17 @@ use Rattle.outline.specs.Checks.{failIf, _orElse_}
 use Rattle.outline.specs.Corners.{corners}
 use Rattle.outline.specs.Reading.{check}
 use Rattle.outline.specs.Refusal.{refusal}
-use Rattle.nearest.specs.declared.Answer.{Answer}
-use Rattle.nearest.specs.declared.Answer.the-variants.{Found, Refused}
+use Rattle.nearest.specs.declared.NearestAnswer.{NearestAnswer}
+use Rattle.nearest.specs.declared.NearestAnswer.the-variants.{Found, Refused}
 use Rattle.nearest.specs.Local.{nearest}
 
 -- 7, the point out of range
 unfoldable pub pointCheck : Corner → List ℤ → Check
 pointCheck v s = check s orElse failIf (not (inRange v)) PointOutOfRange
 
-abbrev pub answerFor : Corner → List ℤ → Check → Answer
+abbrev pub answerFor : Corner → List ℤ → Check → NearestAnswer
 answerFor v s Passed = Found (nearest (corners s) v)
 answerFor v s (Failed f) = Refused (refusal NoSide f)
 
-abbrev pub nearestAnswer : Corner → List ℤ → Answer
+abbrev pub nearestAnswer : Corner → List ℤ → NearestAnswer
 nearestAnswer v s = answerFor v s (pointCheck v s)

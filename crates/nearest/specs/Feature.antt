@@ -1,8 +1,8 @@
 -- Document 01: the gap and the nearest point for each kind of feature, from a point v with whole coordinates. Nothing is reduced.
---     withinAnswer, cornerAnswer, edgeAnswer    what is answered for each kind, from the corners that it speaks of
+--     withinValues, cornerValues, edgeValues    what is answered for each kind, from the corners that it speaks of
 --     edgeGap, footOn                           the two parts of the last, from the edge's start and differences
 --     squaredLength, along                      of an edge; how far along it the foot of a point lies
---     answer                                    the same for a feature of an outline
+--     values                                    the same for a feature of an outline
 use Prim.Native.Nat.{ℕ}
 use mathlib.Core.List.{List}
 use lib.IntN.{ℤ, natAbs, _+ℤ_, _*ℤ_}
@@ -19,12 +19,12 @@ use Rattle.nearest.specs.declared.Feature.the-variants.{Within, Corner a
 use Rattle.nearest.specs.declared.NearestPoint.{NearestPoint}
 
 -- within: 0/1, at v
-abbrev pub withinAnswer : Corner → NearestPoint
-withinAnswer v = record { feature = Within; gap = record { upper = 0; lower = 1 }; point = whole v }
+abbrev pub withinValues : Corner → NearestPoint
+withinValues v = record { feature = Within; gap = record { upper = 0; lower = 1 }; point = whole v }
 
 -- corner i, at c: a whole number over 1
-abbrev pub cornerAnswer : Corner → ℕ → Corner → NearestPoint
-cornerAnswer v i c = record {
+abbrev pub cornerValues : Corner → ℕ → Corner → NearestPoint
+cornerValues v i c = record {
   feature = AtCorner i;
   gap = record { upper = natAbs (dot (c ⇀ v) (c ⇀ v)); lower = 1 };
   point = whole c;
@@ -44,8 +44,8 @@ footOn start run to = record {
 }
 
 -- edge i, from p to q; the gap and the point have the same lower number
-abbrev pub edgeAnswer : Corner → ℕ → Corner → Corner → NearestPoint
-edgeAnswer v i p q = record { feature = OnEdge i; gap = edgeGap (p ⇀ q) (p ⇀ v); point = footOn p (p ⇀ q) (p ⇀ v) }
+abbrev pub edgeValues : Corner → ℕ → Corner → Corner → NearestPoint
+edgeValues v i p q = record { feature = OnEdge i; gap = edgeGap (p ⇀ q) (p ⇀ v); point = footOn p (p ⇀ q) (p ⇀ v) }
 
 -- the squared length of the edge from p to q
 abbrev pub squaredLength : Corner → Corner → ℤ
@@ -55,7 +55,7 @@ squaredLength p q = dot (p ⇀ q) (p ⇀ q)
 abbrev pub along : Corner → Corner → Corner → ℤ
 along p q v = dot (p ⇀ v) (p ⇀ q)
 
-abbrev pub answer : List Corner → Corner → Feature → NearestPoint
-answer cs v Within = withinAnswer v
-answer cs v (AtCorner i) = cornerAnswer v i (corner cs i)
-answer cs v (OnEdge i) = edgeAnswer v i (corner cs i) (corner cs (next (length cs) i))
+abbrev pub values : List Corner → Corner → Feature → NearestPoint
+values cs v Within = withinValues v
+values cs v (AtCorner i) = cornerValues v i (corner cs i)
+values cs v (OnEdge i) = edgeValues v i (corner cs i) (corner cs (next (length cs) i))

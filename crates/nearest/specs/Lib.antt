@@ -3,5 +3,6 @@ pub mod Piece
 pub mod Feature
 pub mod Nearest
 pub mod Local
+pub mod Scaling
 pub mod Search
 pub mod Call

@@ -1,11 +1,16 @@
 -- The nearest feature of an outline to a point, found by tests that look at a corner or an edge and the corners next to it alone.
 --     cornerIsNearest, edgeIsNearest    the tests, of the corners themselves
 --     isCorner, isEdge                  the tests at corner i and at edge i of an outline
+--     Tested                            the test of a feature holds; of Within: no test holds
 --     feature                           the feature that they find; Within where they find none
---     nearest                           the answer with that feature
--- `proofs/Nearest.antt` shows that `nearest` is the one answer that document 01's definition (`Nearest.antt`) admits.
-use Prim.Native.Nat.{ℕ, zero, suc}
-use mathlib.Core.Bool.{Bool, cond, not, _&&_}
+--     nearest                           that feature with its gap and its point
+-- `proofs/AnswerLaws.antt` shows that `nearest` is the one answer that document 01's definition (`Nearest.antt`) admits.
+-- For the code, which tries at an edge only if v is strictly right of it:
+--     isRight, footIsBetween            the two parts of the test of an edge
+--     nearestPart                         the part of an edge that is nearest to v, if any
+use Prim.Native.Nat.{ℕ, zero, suc, _<_}
+use mathlib.Core.Path.{_≡_}
+use mathlib.Core.Bool.{Bool, true, false, cond, not, _&&_}
 use mathlib.Core.List.{List}
 use lib.IntN.{pos}
 use lib.ListN.{length}
@@ -16,7 +21,9 @@ use Rattle.outline.specs.Corners.{corner, next, previous}
 use Rattle.nearest.specs.declared.Feature.{Feature}
 use Rattle.nearest.specs.declared.Feature.the-variants.{Within, Corner as AtCorner, Edge as OnEdge}
 use Rattle.nearest.specs.declared.NearestPoint.{NearestPoint}
-use Rattle.nearest.specs.Feature.{squaredLength, along, answer}
+use Rattle.nearest.specs.declared.local.Part.{Part}
+use Rattle.nearest.specs.declared.local.Part.the-variants.{None, Start, Between, End}
+use Rattle.nearest.specs.Feature.{squaredLength, along, values}
 
 -- v is not the corner c, and (v - c)·(d - c) is at most 0 for the corners d before and after it
 abbrev pub cornerIsNearest : Corner → Corner → Corner → Corner → Bool
@@ -24,15 +31,25 @@ cornerIsNearest v before c after =
     not (same c v) && leZ (dot (c ⇀ v) (c ⇀ before)) (pos 0) && leZ (dot (c ⇀ v) (c ⇀ after)) (pos 0)
 
 -- v is strictly right of the edge from p to q, and its foot lies strictly between them
+abbrev pub isRight : Corner → Corner → Corner → Bool
+isRight v p q = ltZ (side p q v) (pos 0)
+
+abbrev pub footIsBetween : Corner → Corner → Corner → Bool
+footIsBetween v p q = ltZ (pos 0) (along p q v) && ltZ (along p q v) (squaredLength p q)
+
 abbrev pub edgeIsNearest : Corner → Corner → Corner → Bool
-edgeIsNearest v p q =
-    ltZ (side p q v) (pos 0) && ltZ (pos 0) (along p q v) && ltZ (along p q v) (squaredLength p q)
+edgeIsNearest v p q = isRight v p q && footIsBetween v p q
 
 abbrev pub isCorner : List Corner → Corner → ℕ → Bool
 isCorner cs v i = cornerIsNearest v (corner cs (previous (length cs) i)) (corner cs i) (corner cs (next (length cs) i))
 
 abbrev pub isEdge : List Corner → Corner → ℕ → Bool
 isEdge cs v i = edgeIsNearest v (corner cs i) (corner cs (next (length cs) i))
+
+abbrev pub Tested : List Corner → Corner → Feature → Type 0
+Tested cs v Within = (i : ℕ) → i < length cs → (isCorner cs v i ≡ false) × (isEdge cs v i ≡ false)
+Tested cs v (AtCorner i) = (i < length cs) × (isCorner cs v i ≡ true)
+Tested cs v (OnEdge i) = (i < length cs) × (isEdge cs v i ≡ true)
 
 -- corner i or edge i, or Within where neither is nearest
 abbrev pub featureAt : List Corner → Corner → ℕ → Feature
@@ -53,4 +70,13 @@ unfoldable pub feature : List Corner → Corner → Feature
 feature cs v = firstOf (featureAt cs v) (length cs)
 
 abbrev pub nearest : List Corner → Corner → NearestPoint
-nearest cs v = answer cs v (feature cs v)
+nearest cs v = values cs v (feature cs v)
+
+-- of the edge from p to q, with the corners before and after it
+abbrev pub nearestPart : Corner → Corner → Corner → Corner → Corner → Part
+nearestPart v before p q after =
+    cond (isRight v p q)
+    (cond (footIsBetween v p q) Between
+    (cond (cornerIsNearest v before p q) Start
+    (cond (cornerIsNearest v p q after) End None)))
+    None

@@ -19,7 +19,7 @@ use Rattle.outline.specs.Corners.{corner, next}
 use Rattle.nearest.specs.declared.Feature.{Feature}
 use Rattle.nearest.specs.declared.Feature.the-variants.{Within, Corner as AtCorner, Edge as OnEdge}
 use Rattle.nearest.specs.declared.NearestPoint.{NearestPoint}
-use Rattle.nearest.specs.Feature.{answer}
+use Rattle.nearest.specs.Feature.{values}
 use Rattle.nearest.specs.Piece.{edge, sideOf, InPiece, Outside}
 
 -- the point y of the piece for which (v - y)·(c - y) is at most 0 for every corner c of the piece
@@ -41,7 +41,7 @@ Fits cs v y (OnEdge i) = Outside cs v × (i < length cs) × Between cs i y
 
 -- |v - y|² is dot (y ⇢ v) (y ⇢ v) over the square of both lower numbers; the equation is multiplied out
 pub record SquaredDistance (v y : Point) (g : Fraction) : Type 0 where
-  pub proper : Proper y
+  pub proper : Proper v × Proper y
   pub lower-positive : pos 0 <ℤ pos (g .lower)
   pub equal : pos (g .upper) *ℤ (pos (y .lower) *ℤ pos (v .lower)) *ℤ (pos (y .lower) *ℤ pos (v .lower))
       ≡ dot (y ⇢ v) (y ⇢ v) *ℤ pos (g .lower)
@@ -50,4 +50,4 @@ pub record SquaredDistance (v y : Point) (g : Fraction) : Type 0 where
 pub record Answers (cs : List Corner) (v : Corner) (a : NearestPoint) : Type 0 where
   pub nearest : Nearest cs (whole v) (a .point)
   pub fits : Fits cs (whole v) (a .point) (a .feature)
-  pub written : a ≡ answer cs v (a .feature)
+  pub written : a ≡ values cs v (a .feature)

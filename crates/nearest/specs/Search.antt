@@ -1,4 +1,5 @@
--- Document 01: what the trial does for one corner v of the other piece, an exhaustive search. Fed the corners and v and nothing else.
+-- Document 01: what the trial does for one corner v, an exhaustive search. It is fed v and the corners of the other piece, `cs`, and
+-- nothing else.
 --     tryCorner, tryEdge    a candidate: a feature with its gap and its point
 --     tried                 all that is tried for a v that is not in the piece
 --     leastOf               the candidate with the least gap
@@ -36,8 +37,7 @@ tryCorner v i c = record {
 abbrev pub isTried : Corner → Corner → Corner → Bool
 isTried v p q =
     ltZ (side p q v) (pos 0)
-    && ltZ (pos 0) (dot (p ⇀ v) (p ⇀ q))
-    && ltZ (dot (p ⇀ v) (p ⇀ q)) (dot (p ⇀ q) (p ⇀ q))
+    && (ltZ (pos 0) (dot (p ⇀ v) (p ⇀ q)) && ltZ (dot (p ⇀ v) (p ⇀ q)) (dot (p ⇀ q) (p ⇀ q)))
 
 -- the point is then (L × p + t × (q - p)) / L and the gap the square of the side number over L
 abbrev pub tryEdge : Corner → ℕ → Corner → Corner → NearestPoint

@@ -9,11 +9,11 @@ ghost use mathlib.Core.Path.{_≡_};
 ghost use lib.IntN.{_+ℤ_, _*ℤ_};
 ghost use Rattle.integers.specs.Size.{AtMost};
 ghost use Rattle.plane.specs.Range.{InRange, Span, limit, reach, productLimit};
-ghost use Rattle.nearest.specs.Feature.{withinAnswer, cornerAnswer, edgeGap, footOn, edgeAnswer};
+ghost use Rattle.nearest.specs.Feature.{withinValues, cornerValues, edgeGap, footOn, edgeValues};
 
 // v is in the piece.
 pub fn within(v: Corner) -> NearestPoint
-    ensures { λ r. ⌜ r ≡ withinAnswer v ⌝ }
+    ensures { λ r. ⌜ r ≡ withinValues v ⌝ }
 {
     NearestPoint {
         feature: Feature::Within,
@@ -26,7 +26,7 @@ pub fn within(v: Corner) -> NearestPoint
 pub fn at_corner(v: Corner, i: usize, c: Corner) -> NearestPoint
     requires { ⌜ InRange v ⌝ }
     requires { ⌜ InRange c ⌝ }
-    ensures { λ r. ⌜ r ≡ cornerAnswer v i c ⌝ }
+    ensures { λ r. ⌜ r ≡ cornerValues v i c ⌝ }
 {
     let gap = plane::squared_length(plane::difference(c, v));
     NearestPoint {
@@ -87,7 +87,7 @@ pub fn on_edge(v: Corner, i: usize, p: Corner, q: Corner) -> NearestPoint
     requires { ⌜ InRange v ⌝ }
     requires { ⌜ InRange p ⌝ }
     requires { ⌜ InRange q ⌝ }
-    ensures { λ r. ⌜ r ≡ edgeAnswer v i p q ⌝ }
+    ensures { λ r. ⌜ r ≡ edgeValues v i p q ⌝ }
 {
     let run = plane::difference(p, q);
     let to = plane::difference(p, v);

@@ -2,6 +2,7 @@
 pub mod answers;
 pub mod local;
 
+use crate::local::Part;
 use integers::fraction::Fraction;
 use outline::Outline;
 use outline::Refusal;
@@ -29,12 +30,13 @@ pub struct NearestPoint {
 }
 
 // What the call answers.
-pub enum Answer {
+pub enum NearestAnswer {
     Found(NearestPoint),
     Refused(Refusal),
 }
 
-// The nearest point of an outline to v: one pass, with the two tests of `specs/Local.antt` at each corner.
+// The nearest point of an outline to v: one pass over the edges. v is in the piece if it is strictly right of none, and where it is right
+// of one, some edge that it is right of has the nearest point at its start, between its ends or at its end (`proofs/Pass.antt`).
 pub fn nearest(o: Outline, v: Corner) -> NearestPoint
     requires { ⌜ IsOutline o ⌝ }
     requires { ⌜ InRange v ⌝ }
@@ -43,14 +45,16 @@ pub fn nearest(o: Outline, v: Corner) -> NearestPoint
     let n = o.count;
     let mut i = 0;
     while i < n {
+        let j = corners::next(n, i);
         let before = o.corners[corners::previous(n, i)];
-        let c = o.corners[i];
-        let after = o.corners[corners::next(n, i)];
-        if local::corner_is_nearest(v, before, c, after) {
-            return answers::at_corner(v, i, c);
-        }
-        if local::edge_is_nearest(v, c, after) {
-            return answers::on_edge(v, i, c, after);
+        let p = o.corners[i];
+        let q = o.corners[j];
+        let after = o.corners[corners::next(n, j)];
+        match local::nearest_part(v, before, p, q, after) {
+            Part::None => {}
+            Part::Start => return answers::at_corner(v, i, p),
+            Part::Between => return answers::on_edge(v, i, p, q),
+            Part::End => return answers::at_corner(v, j, q),
         }
         i += 1;
     }

@@ -2,6 +2,7 @@
 --     first-stands         a list is refused with a fault exactly where the fault applies and none before it does
 --     none-applies         a list is taken exactly where no fault applies
 --     accepted             that is: its length is even and the outline of its corners is accepted
+--     accepted-polygon     an accepted outline is a polygon
 --     accepted-distinct    of an accepted outline no corner is equal to the following one
 use Prim.Native.Nat.{ℕ, _<_, _%_}
 use mathlib.Core.Path.{_≡_, refl, sym, ap, subst, _∙_}
@@ -19,7 +20,7 @@ use Rattle.outline.specs.declared.Fault.{Fault}
 use Rattle.outline.specs.declared.Fault.the-variants.{OddLength, TooFewCorners, TooManyCorners, OutOfRange, Repeated, NotLeft, PointOutOfRange, NoSuchCorner, WrongLength}
 use Rattle.outline.specs.declared.Check.the-variants.{Passed, Failed}
 use Rattle.outline.specs.Corners.{corners, corner, next}
-use Rattle.outline.specs.Convex.{Accepted}
+use Rattle.outline.specs.Convex.{Accepted, Polygon}
 use Rattle.outline.specs.Reading.{check}
 use Rattle.outline.specs.Applies.{Applies, rank}
 use Rattle.outline.proofs.CornersLaws.{next-below, next-other, next-next-other}
@@ -66,6 +67,9 @@ accepted-distinct {cs} ok i below same = <ℤ-irrefl (subst (λ z. pos 0 <ℤ z)
 
     on-line : side (corner cs i) (corner cs (next n i)) (corner cs third) ≡ pos 0
     on-line = ap (λ q. side (corner cs i) q (corner cs third)) (sym same) ∙ side-same (corner cs i) (corner cs third)
+
+pub accepted-polygon : {cs : List Corner} → Accepted cs → Polygon cs
+accepted-polygon ok = record { at-least = ok .at-least; convex = ok .convex }
 
 pub accepted : (s : List ℤ) → (check s ≡ Passed) ↔ ((length s % 2 ≡ 0) × Accepted (corners s))
 accepted s = (there, λ h. none-applies s .1 (none (h .0) (h .1)))

@@ -26,7 +26,7 @@ StrictlyConvex cs =
     → pos 0 <ℤ side (corner cs e) (corner cs (next (length cs) e)) (corner cs c)
 
 pub record Polygon (cs : List Corner) : Type 0 where
-  pub at-least : fewest ≤ length cs
+  pub at-least : 3 ≤ length cs
   pub convex : StrictlyConvex cs
 
 -- 3 to 256 corners, every coordinate in range, and strictly convex

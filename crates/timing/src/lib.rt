@@ -1,6 +1,6 @@
 // Calls for the benchmarks under bench/, which link them from C. `points` gives x and y of each point. Each answers the greatest
 // upper number of a gap, so that no work can be left out.
-use nearest::Answer;
+use nearest::NearestAnswer;
 use outline::Outline;
 use outline::RefusedSide;
 use outline::Verdict;
@@ -15,8 +15,8 @@ fn greater(a: u64, b: u64) -> u64 {
 // The upper number of the gap that the public call finds, or 0 where it refuses.
 fn called(v: Corner, s: &[i32]) -> u64 {
     match calls::nearest_point(v, s) {
-        Answer::Found(a) => a.gap.upper,
-        Answer::Refused(_) => 0,
+        NearestAnswer::Found(a) => a.gap.upper,
+        NearestAnswer::Refused(_) => 0,
     }
 }
 

@@ -15,8 +15,8 @@ use Rattle.outline.specs.declared.Place.the-variants.{Nowhere, EdgeAndCorner}
 use Rattle.outline.specs.declared.RefusedSide.the-variants.{NoSide}
 use Rattle.outline.specs.Reading.{reading}
 use Rattle.outline.specs.Corners.{corners}
-use Rattle.nearest.specs.declared.Answer.{Answer}
-use Rattle.nearest.specs.declared.Answer.the-variants.{Found, Refused as NearestRefused}
+use Rattle.nearest.specs.declared.NearestAnswer.{NearestAnswer}
+use Rattle.nearest.specs.declared.NearestAnswer.the-variants.{Found, Refused as NearestRefused}
 use Rattle.nearest.specs.declared.Feature.the-variants.{Within, Corner as AtCorner, Edge as OnEdge}
 use Rattle.nearest.specs.declared.NearestPoint.{NearestPoint}
 use Rattle.nearest.specs.Call.{nearestAnswer}
@@ -29,7 +29,7 @@ pub data Case : Type 0 where
   -- removing a corner of the list, with a list to write, ends so and leaves that list so
   removes : List ℤ → ℕ → List ℤ → Verdict → List ℤ → Case
   -- the nearest point of the list's outline to a point is answered so
-  nears : Corner → List ℤ → Answer → Case
+  nears : Corner → List ℤ → NearestAnswer → Case
   -- the exhaustive search for a point finds this
   searches : Corner → List ℤ → NearestPoint → Case
 

@@ -1,7 +1,7 @@
 -- `calls::nearest_point` goes by what reading gives and then by the point's range.
 use borrow.Author.Needs.{needs}
 use mathlib.Core.Path.{ap, _∙_}
-use Rattle.nearest.specs.declared.Answer.the-variants.{Found, Refused}
+use Rattle.nearest.specs.declared.NearestAnswer.the-variants.{Found, Refused}
 use Rattle.nearest.proofs.CallLaws.{call-unread, call-out-of-range, call-asks, call-found}
 use Rattle.calls.proofs.nearest_point.Statement.{statement}
 use Rattle.calls.proofs.nearest_point.Tie as tie

@@ -1,15 +1,24 @@
--- `nearest::nearest` looks at the corners in order and answers with the first feature that a test finds.
+-- `nearest::nearest` tries the edges in order and answers with the first part of one that is nearest.
 use borrow.Author.Needs.{needs}
 use mathlib.Core.Path.{_≡_, sym, _∙_}
 use native.Mathlib.Omega.{arith}
 use Prim.Native.Nat.{_-_}
 use lib.ListN.{length}
-use Rattle.outline.specs.Corners.{most, cornersOf}
+use Rattle.outline.specs.Corners.{corner, most, cornersOf}
+use Rattle.outline.proofs.Acceptance.{accepted-polygon}
 use Rattle.outline.proofs.HeldLaws.{length-cornersOf, length-mapped}
 use Rattle.nearest.proofs.Pass.{before-below, after-below, Passing, pass-start, pass-none}
-use Rattle.nearest.proofs.Pass.{turn-read, turn-range, turn-corner, turn-edge, turn-on}
+use Rattle.nearest.proofs.Pass.{Turn, turn-read, turn-range, turn-start, turn-between, turn-end, turn-on}
 use Rattle.nearest.proofs.nearest.Statement.{statement}
 use Rattle.nearest.proofs.nearest.Tie as tie
+use Rattle.nearest.proofs.nearest.Reads as reads
+use Rattle.nearest.proofs.nearest.Lts as lts
+use Rattle.nearest.proofs.answers.at_corner.Reads as at-corner
+use Rattle.nearest.proofs.answers.on_edge.Reads as on-edge
+use Rattle.nearest.proofs.answers.within.Reads as within
+use Rattle.nearest.proofs.local.nearest_part.Reads as nearest-part
+use Rattle.outline.proofs.corners.next.Reads as next
+use Rattle.outline.proofs.corners.previous.Reads as previous
 
 abbrev Inv-loop : tie.InvT-loop
 Inv-loop v o n i₀ i = (n ≡ length (cornersOf o)) × Passing (cornersOf o) v i
@@ -22,69 +31,104 @@ loop-holds c =
     let places : length (c .args .t1 .corners) ≡ most = search length-mapped in
     (sym (length-cornersOf (c .args .t1) (omega (arith, c .pre .0 .fits))), pass-start _ _)
 
+next-requires : tie.Need-next-requires Inv-loop μ-loop
+next-requires c κs = omega arith
+
 previous-requires : tie.Need-previous-requires Inv-loop μ-loop
 previous-requires c κs = omega arith
 
 mul-before : tie.Need-mul-before Inv-loop μ-loop
-mul-before c = omega (arith, before-below (c .previous .ensures) (c .before .loop-test .taken))
+mul-before c = omega (arith, before-below (c .previous .ensures) (c .before .before .loop-test .taken))
 
 element-copy-out-before : tie.Need-element-copy-out-before Inv-loop μ-loop
-element-copy-out-before c = omega (arith, before-below (c .previous .ensures) (c .before .loop-test .taken))
+element-copy-out-before c = omega (arith, before-below (c .previous .ensures) (c .before .before .loop-test .taken))
 
-mul-c : tie.Need-mul-c Inv-loop μ-loop
-mul-c c = omega arith
+mul-p : tie.Need-mul-p Inv-loop μ-loop
+mul-p c = omega arith
 
-element-copy-out-c : tie.Need-element-copy-out-c Inv-loop μ-loop
-element-copy-out-c c = omega arith
+element-copy-out-p : tie.Need-element-copy-out-p Inv-loop μ-loop
+element-copy-out-p c = omega arith
 
-next-requires : tie.Need-next-requires Inv-loop μ-loop
-next-requires c κs = omega arith
+mul-q : tie.Need-mul-q Inv-loop μ-loop
+mul-q c = omega (arith, after-below (c .before .before .before .next .ensures) (c .before .before .before .before .loop-test .taken))
+
+element-copy-out-q : tie.Need-element-copy-out-q Inv-loop μ-loop
+element-copy-out-q c = omega (arith, after-below (c .before .before .before .next .ensures) (c .before .before .before .before .loop-test .taken))
+
+next-requires-2 : tie.Need-next-requires-2 Inv-loop μ-loop
+next-requires-2 c κs = after-below (c .before .before .before .before .next .ensures) (c .before .before .before .before .before .loop-test .taken)
 
 mul-after : tie.Need-mul-after Inv-loop μ-loop
-mul-after c = omega (arith, after-below (c .next .ensures) (c .before .before .before .before .loop-test .taken))
+mul-after c = omega (arith, after-below (c .next2 .ensures) (next-requires-2 (c .before) tt))
 
 element-copy-out-after : tie.Need-element-copy-out-after Inv-loop μ-loop
-element-copy-out-after c = omega (arith, after-below (c .next .ensures) (c .before .before .before .before .loop-test .taken))
+element-copy-out-after c = omega (arith, after-below (c .next2 .ensures) (next-requires-2 (c .before) tt))
 
-corner-is-nearest-requires : tie.Need-corner-is-nearest-requires Inv-loop μ-loop
-corner-is-nearest-requires c κs =
-    let loop = c .before .before .before .before .before .before in
-    let turn = turn-read (loop .before .args .t1) (loop .loop .inv .0)
-    (c .before .before .before .before .before .loop-test .taken)
-    (c .before .before .before .before .previous .ensures)
-    (c .before .next .ensures) in
-    (loop .before .pre .1, turn-range turn (loop .before .pre .0 .accepted .in-range))
+-- what the turn has read when it asks for the part of the edge
+turn-at : (c : lts.After-after (
+  next.Asked,
+  next.Learnt,
+  previous.Asked,
+  previous.Learnt,
+  nearest-part.Asked,
+  nearest-part.Learnt,
+  at-corner.Asked,
+  at-corner.Learnt,
+  on-edge.Asked,
+  on-edge.Learnt,
+  within.Asked,
+  within.Learnt,
+) reads.Pre reads.Post Inv-loop μ-loop)
+    → (let start = c .before .before .before .before .before .before .before .before .before in let o = start .args .t1 in let i = c .before .before .before .before .before .before .before .before .loop .i in let j = c .before .before .before .before .before .before .next .result in
+    Turn (cornersOf o) i j (corner (o .corners) (c .before .before .before .before .before .previous .result)) (corner (o .corners) i) (corner (o .corners) j)
+    (corner (o .corners) (c .before .next2 .result)))
+turn-at c =
+    let read = c .before .before .before .before .before .before in
+    turn-read _ (read .before .before .loop .inv .0) (read .before .loop-test .taken) (read .next .ensures)
+    (c .before .before .before .before .before .previous .ensures) (c .before .next2 .ensures)
+
+nearest-part-requires : tie.Need-nearest-part-requires Inv-loop μ-loop
+nearest-part-requires c κs =
+    let pre = c .before .before .before .before .before .before .before .before .before .pre in (pre .1, turn-range (turn-at c) (pre .0 .accepted .in-range))
+
+enum-told : tie.Need-enum-told Inv-loop μ-loop
+enum-told c = search needs
+
+enum-told-2 : tie.Need-enum-told-2 Inv-loop μ-loop
+enum-told-2 c = search needs
 
 at-corner-requires : tie.Need-at-corner-requires Inv-loop μ-loop
-at-corner-requires c κs = let (v, (_, (here, _))) = corner-is-nearest-requires (c .before .before) κs in (v, here)
+at-corner-requires c κs = let (v, (_, (p, _))) = nearest-part-requires (c .before .before .before) κs in (v, p)
 
 returns : tie.Need-returns Inv-loop μ-loop
 returns c =
-    let loop = c .before .before .before .before .before .before .before .before .before in
-    let turn = turn-read (loop .before .args .t1) (loop .loop .inv .0)
-    (c .before .before .before .before .before .before .before .before .loop-test .taken)
-    (c .before .before .before .before .before .before .before .previous .ensures)
-    (c .before .before .before .before .next .ensures) in
-    c .at-corner .ensures
-    ∙ turn-corner turn (loop .loop .inv .1) (sym (c .before .before .corner-is-nearest .ensures) ∙ c .before .if1 .taken)
+    let part = c .before .before .before in
+    let polygon = accepted-polygon (part .before .before .before .before .before .before .before .before .before .before .pre .0 .accepted) in
+    c .at-corner .ensures ∙ turn-start (turn-at (part .before)) _ (part .nearest-part .ensures) polygon (c .before .enum-told2 .given .1)
 
-edge-is-nearest-requires : tie.Need-edge-is-nearest-requires Inv-loop μ-loop
-edge-is-nearest-requires c κs = let (v, (_, after)) = corner-is-nearest-requires (c .before .before) κs in (v, after)
+enum-told-3 : tie.Need-enum-told-3 Inv-loop μ-loop
+enum-told-3 c = search needs
 
 on-edge-requires : tie.Need-on-edge-requires Inv-loop μ-loop
-on-edge-requires c κs = let (v, (_, after)) = corner-is-nearest-requires (c .before .before .before .before) κs in (v, after)
+on-edge-requires c κs = let (v, (_, (p, (q, _)))) = nearest-part-requires (c .before .before .before) κs in (v, (p, q))
 
 returns-2 : tie.Need-returns-2 Inv-loop μ-loop
 returns-2 c =
-    let loop = c .before .before .before .before .before .before .before .before .before .before .before in
-    let turn = turn-read (loop .before .args .t1) (loop .loop .inv .0)
-    (c .before .before .before .before .before .before .before .before .before .before .loop-test .taken)
-    (c .before .before .before .before .before .before .before .before .before .previous .ensures)
-    (c .before .before .before .before .before .before .next .ensures) in
-    c .on-edge .ensures
-    ∙ turn-edge turn (loop .loop .inv .1)
-    (sym (c .before .before .before .before .corner-is-nearest .ensures) ∙ c .before .before .before .if1 .left)
-    (sym (c .before .before .edge-is-nearest .ensures) ∙ c .before .if2 .taken)
+    let part = c .before .before .before in
+    let polygon = accepted-polygon (part .before .before .before .before .before .before .before .before .before .before .pre .0 .accepted) in
+    c .on-edge .ensures ∙ turn-between (turn-at (part .before)) _ (part .nearest-part .ensures) polygon (c .before .enum-told3 .given .1)
+
+enum-told-4 : tie.Need-enum-told-4 Inv-loop μ-loop
+enum-told-4 c = search needs
+
+at-corner-requires-2 : tie.Need-at-corner-requires-2 Inv-loop μ-loop
+at-corner-requires-2 c κs = let (v, (_, (_, (q, _)))) = nearest-part-requires (c .before .before .before) κs in (v, q)
+
+returns-3 : tie.Need-returns-3 Inv-loop μ-loop
+returns-3 c =
+    let part = c .before .before .before in
+    let polygon = accepted-polygon (part .before .before .before .before .before .before .before .before .before .before .pre .0 .accepted) in
+    c .at-corner2 .ensures ∙ turn-end (turn-at (part .before)) _ (part .nearest-part .ensures) polygon (c .before .enum-told4 .given .1)
 
 add-i : tie.Need-add-i Inv-loop μ-loop
 add-i c = omega arith
@@ -94,21 +138,17 @@ loop-less c = omega arith
 
 loop-again : tie.Need-loop-again Inv-loop μ-loop
 loop-again c =
-    let loop = c .before .before .before .before .before .before .before .before .before .before in
-    let turn = turn-read (loop .before .args .t1) (loop .loop .inv .0)
-    (c .before .before .before .before .before .before .before .before .before .loop-test .taken)
-    (c .before .before .before .before .before .before .before .before .previous .ensures)
-    (c .before .before .before .before .before .next .ensures) in
-    let on = turn-on turn (loop .loop .inv .1)
-    (sym (c .before .before .before .corner-is-nearest .ensures) ∙ c .before .before .if1 .left)
-    (sym (c .before .edge-is-nearest .ensures) ∙ c .if2 .left) in
-    (loop .loop .inv .0, on)
+    let part = c .before .before in
+    let inv = part .before .before .before .before .before .before .before .before .before .loop .inv in
+    (inv .0, turn-on (turn-at (part .before)) _ (part .nearest-part .ensures) (inv .1) (c .enum-told .given .1))
 
 within-requires : tie.Need-within-requires Inv-loop μ-loop
 within-requires c κs = search needs
 
-returns-3 : tie.Need-returns-3 Inv-loop μ-loop
-returns-3 c = c .within .ensures ∙ pass-none (c .before .before .loop .inv .1) (omega arith)
+returns-4 : tie.Need-returns-4 Inv-loop μ-loop
+returns-4 c =
+    let polygon = accepted-polygon (c .before .before .before .pre .0 .accepted) in
+    c .within .ensures ∙ pass-none polygon (c .before .before .loop .inv .1) (omega arith)
 
 pub nearest-spec : {M : Type 1} → statement M
 nearest-spec =
@@ -117,22 +157,30 @@ nearest-spec =
     Inv-loop
     μ-loop
     loop-holds
+    next-requires
     previous-requires
     mul-before
     element-copy-out-before
-    mul-c
-    element-copy-out-c
-    next-requires
+    mul-p
+    element-copy-out-p
+    mul-q
+    element-copy-out-q
+    next-requires-2
     mul-after
     element-copy-out-after
-    corner-is-nearest-requires
+    nearest-part-requires
+    enum-told
+    enum-told-2
     at-corner-requires
     returns
-    edge-is-nearest-requires
+    enum-told-3
     on-edge-requires
     returns-2
+    enum-told-4
+    at-corner-requires-2
+    returns-3
     add-i
     loop-less
     loop-again
     within-requires
-    returns-3)
+    returns-4)

@@ -1,0 +1,58 @@
+-- `nearest::local::foot_is_between` makes the definition's two tests in order.
+use borrow.Author.Needs.{needs, sfits-of}
+use mathlib.Core.Bool.{true, false}
+use mathlib.Core.Path.{_≡_, _∙_}
+use lib.IntN.{ℤ, pos}
+use lib.Signed.{ltZ, leZ}
+use mir.Facts.{toZ-ofZ}
+use mir.Syntax.{w64}
+use mir.Val.{SFits}
+use Rattle.integers.proofs.Order.{leZ-true, leZ-false, ≤ℤ-ltZ, <ℤ-ltZ}
+use Rattle.plane.specs.declared.Corner.{Corner}
+use Rattle.plane.proofs.Range.{span-difference}
+use Rattle.nearest.specs.Feature.{along, squaredLength}
+use Rattle.nearest.specs.Local.{footIsBetween}
+use Rattle.nearest.proofs.local.foot_is_between.Statement.{statement}
+use Rattle.nearest.proofs.local.foot_is_between.Tie as tie
+
+module _ (v p q : Corner) where
+  abbrev t : ℤ
+  t = along p q v
+
+  before-start : leZ t (pos 0) ≡ true → false ≡ footIsBetween v p q
+  before-start before = let fails = ≤ℤ-ltZ (leZ-true {a = t} {b = pos 0} before) in rw fails
+
+  after-start : {a l : ℤ} → leZ t (pos 0) ≡ false → a ≡ t → l ≡ squaredLength p q → ltZ a l ≡ footIsBetween v p q
+  after-start not-before is-t is-l = let after = <ℤ-ltZ (leZ-false {a = t} {b = pos 0} not-before) in rw (after, is-t, is-l)
+
+difference-requires : tie.Need-difference-requires
+difference-requires c κs = search needs
+
+difference-requires-2 : tie.Need-difference-requires-2
+difference-requires-2 c κs = search needs
+
+dot-requires : tie.Need-dot-requires
+dot-requires c κs = search span-difference
+
+returns : tie.Need-returns
+returns c = let along-fits : SFits w64 (c .before .dot .result) = search sfits-of in before-start _ _ _ (cc (toZ-ofZ along-fits))
+
+squared-length-requires : tie.Need-squared-length-requires
+squared-length-requires c κs = search span-difference
+
+returns-2 : tie.Need-returns-2
+returns-2 c =
+    let along-fits : SFits w64 (c .before .before .dot .result) = search sfits-of in
+    let length-fits : SFits w64 (c .squared-length .result) = search sfits-of in
+    after-start _ _ _ (cc (toZ-ofZ along-fits)) (toZ-ofZ along-fits ∙ (cc)) (toZ-ofZ length-fits ∙ (cc))
+
+pub foot-is-between-spec : {M : Type 1} → statement M
+foot-is-between-spec =
+    tie.close
+    (tie.spec
+    difference-requires
+    difference-requires-2
+    dot-requires
+    returns
+    squared-length-requires
+    returns-2)
