@@ -4,27 +4,33 @@
 --     answers-iff                  there is only one: `nearest`
 --     nearest-distance             its gap is the squared distance of its point
 --     feature-iff                  so there is only one feature whose test holds
+--     within-iff, gap-zero-iff     it is Within, and the gap is 0, exactly where v is in the piece
 --     local-agrees                 so a feature is document 01's exactly where its local test holds
 --     foot-at-start, foot-at-end   a foot that falls on an end is a corner
 use Prim.Native.Nat.{ℕ, _<_}
 use mathlib.Core.Path.{_≡_, refl, sym, ap, subst, _∙_}
 use mathlib.Core.Logic.{_↔_, ⊎-elim}
 use mathlib.Core.Bool.{Bool, true, false, cond}
-use mathlib.Core.List.{List}
+use mathlib.Core.List.{List, [], _∷_}
 use native.Mathlib.Omega.{arith}
-use lib.IntN.{pos}
+use lib.IntN.{ℤ, pos, _*ℤ_}
 use lib.ListN.{length}
-use lib.Signed.{_<ℤ_}
+use lib.Signed.{_<ℤ_, ≤ℤ-refl}
+use Rattle.integers.proofs.Polynomial.{var, lit, _⊗_}
+use Rattle.integers.proofs.Certificate.{_≺_, _≗_, hyp, eqn, _⊞_, _⊠_, refute}
+use Rattle.integers.proofs.Order.{natAbs-nonneg, square-nonneg}
 use Rattle.plane.specs.declared.Corner.{Corner}
 use Rattle.plane.specs.Point.{whole}
 use Rattle.plane.proofs.Points.{same-refl, whole-proper}
-use Rattle.plane.specs.Vector.{side}
+use Rattle.plane.specs.Vector.{_⇀_, side}
+use Rattle.plane.proofs.Algebra.{O, dot-self, apart-0}
 use Rattle.outline.specs.Convex.{Polygon}
 use Rattle.outline.specs.Corners.{corner, next}
 use Rattle.outline.proofs.CornersLaws.{next-below, previous-next}
 use Rattle.nearest.specs.declared.Feature.{Feature}
 use Rattle.nearest.specs.declared.Feature.the-variants.{Within, Corner as AtCorner, Edge as OnEdge}
 use Rattle.nearest.specs.declared.NearestPoint.{NearestPoint}
+use Rattle.nearest.specs.Piece.{InPiece}
 use Rattle.nearest.specs.Feature.{squaredLength, along, values}
 use Rattle.nearest.specs.Nearest.{SquaredDistance, Answers}
 use Rattle.nearest.specs.Local.{isCorner, isEdge, Tested, featureAt, feature, nearest}
@@ -32,7 +38,7 @@ use Rattle.nearest.proofs.FirstOf.{firstOf-found}
 use Rattle.nearest.proofs.DistanceLaws.{Known, squared-distance}
 use Rattle.nearest.proofs.FitsLaws.{fits-unique}
 use Rattle.nearest.proofs.LocalLaws.{corner-nearest, edge-nearest, none-holds}
-use Rattle.nearest.proofs.Walk.{corner-test, square-at-start, square-at-end}
+use Rattle.nearest.proofs.Walk.{corner-test, edge-test, square-at-start, square-at-end}
 use Rattle.nearest.proofs.Support.{turns-left}
 use Rattle.nearest.proofs.NearestLaws.{nearest-self, nearest-unique}
 
@@ -68,6 +74,10 @@ tested-known : (cs : List Corner) (v : Corner) (f : Feature) → Tested cs v f �
 tested-known cs v Within holds = tt
 tested-known cs v (AtCorner i) holds = holds .0
 tested-known cs v (OnEdge i) holds = holds .0
+
+-- a number below 0 has a square above 0
+no-square : (s : ℤ) → s <ℤ pos 0 → s *ℤ s ≡ pos 0 → ⊥
+no-square s = refute (s ∷ []) (var 0 ≺ O ∷ var 0 ⊗ var 0 ≗ O ∷ []) (hyp 0 ⊠ hyp 0 ⊞ eqn 1 (lit (pos 1))) tt
 
 module _ {cs : List Corner} (polygon : Polygon cs) (v : Corner) where
   pub tested-answers : (f : Feature) → Tested cs v f → Answers cs v (values cs v f)
@@ -112,6 +122,33 @@ module _ {cs : List Corner} (polygon : Polygon cs) (v : Corner) where
         (sym (values-feature cs v (feature cs v)) ∙ ap (λ (a : NearestPoint). a .feature) (sym (answers-iff (values cs v f) .0 is))
         ∙ values-feature cs v f),
   )
+
+  pub within-iff : (feature cs v ≡ Within) ↔ InPiece cs (whole v)
+  within-iff = (
+    λ is. tested-answers Within (feature-iff Within .0 is) .fits .0,
+    λ inside. is-within inside (feature cs v) (feature-tested cs v),
+  )
+    where
+      is-within : InPiece cs (whole v) → (f : Feature) → Tested cs v f → f ≡ Within
+      is-within inside Within holds = refl
+      is-within inside (AtCorner i) holds = absurd (tested-answers (AtCorner i) holds .fits .0 inside)
+      is-within inside (OnEdge i) holds = absurd (tested-answers (OnEdge i) holds .fits .0 inside)
+
+  pub gap-zero-iff : (nearest cs v .gap .upper ≡ 0) ↔ InPiece cs (whole v)
+  gap-zero-iff = (
+    λ none. within-iff .0 (is-within (feature cs v) (feature-tested cs v) none),
+    λ inside. ap (λ (f : Feature). values cs v f .gap .upper) (within-iff .1 inside),
+  )
+    where
+      is-within : (f : Feature) → Tested cs v f → values cs v f .gap .upper ≡ 0 → f ≡ Within
+      is-within Within holds none = refl
+      is-within (AtCorner i) (below, holds) none =
+          let c = corner cs i in
+          absurd (corner-test v _ c _ .0 holds .0 .0
+          (apart-0 c v (rw (sym (natAbs-nonneg (dot-self (c ⇀ v))) ∙ ap pos none) (≤ℤ-refl (pos 0)))))
+      is-within (OnEdge i) (below, holds) none =
+          let s = side (corner cs i) (corner cs (next (length cs) i)) v in
+          absurd (no-square s (edge-test v _ _ .0 holds .0) (sym (natAbs-nonneg (square-nonneg s)) ∙ ap pos none))
 
   module _ (i : ℕ) (below : i < length cs) where
     abbrev p : Corner

@@ -1,6 +1,7 @@
 -- The call for the nearest point, as its callers see it.
 --     pointCheck-failed, pointCheck-passed    the checks find a fault of the outline, or else that the point is out of range
 --     answer-refused, answer-found            the call refuses for the fault that they find, and answers where they find none
+--     call-answers, call-refuses              so it answers exactly what document 01 lays down, and refuses exactly as it says
 -- For the code, by what reading the list gives and whether the point is in range:
 --     call-unread, call-out-of-range          a list that is refused; a point out of range
 --     call-asks, call-found                   what the search asks, and the answer
@@ -8,7 +9,9 @@ use mathlib.Core.Path.{_≡_, refl, ap}
 use mathlib.Core.Logic.{_↔_, Iff·rfl, Iff·trans, Iff·and, _⊎_, ⊎-map}
 use mathlib.Core.Bool.{true, false, not}
 use mathlib.Core.List.{List}
+use Prim.Native.Nat.{_%_, _<_}
 use lib.IntN.{ℤ}
+use lib.ListN.{length}
 use Rattle.integers.proofs.Reflect.{test-false, test-not, test-stable}
 use Rattle.plane.specs.declared.Corner.{Corner}
 use Rattle.plane.specs.Range.{InRange, inRange}
@@ -21,16 +24,20 @@ use Rattle.outline.specs.declared.Reading.{Reading}
 use Rattle.outline.specs.declared.Refusal.{Refusal}
 use Rattle.outline.specs.declared.RefusedSide.the-variants.{NoSide}
 use Rattle.outline.specs.declared.Verdict.the-variants.{Taken, Refused as NotTaken}
+use Rattle.outline.specs.Applies.{Applies, rank}
 use Rattle.outline.specs.Checks.{_orElse_}
-use Rattle.outline.specs.Convex.{IsOutline}
+use Rattle.outline.specs.Convex.{Accepted, IsOutline}
 use Rattle.outline.specs.Corners.{corners, cornersOf}
 use Rattle.outline.specs.Reading.{check, reading}
 use Rattle.outline.specs.Refusal.{refusal, verdict}
+use Rattle.outline.proofs.Acceptance.{accepted, accepted-polygon, first-stands}
 use Rattle.outline.proofs.ChecksLaws.{orElse-passed, orElse-failed, failIf-passed, failIf-failed}
 use Rattle.outline.proofs.ReadingLaws.{reading-outline, reading-cornersOf}
 use Rattle.outline.proofs.RefusalLaws.{refusal-injective, verdict-taken}
 use Rattle.nearest.specs.declared.NearestAnswer.the-variants.{Found, Refused}
 use Rattle.nearest.specs.declared.NearestPoint.{NearestPoint}
+use Rattle.nearest.specs.Nearest.{Answers}
+use Rattle.nearest.proofs.AnswerLaws.{answers-iff}
 use Rattle.nearest.specs.Call.{pointCheck, answerFor, nearestAnswer}
 use Rattle.nearest.specs.Local.{nearest}
 
@@ -71,6 +78,25 @@ module _ (v : Corner) where
 
     pub answer-found : (a : NearestPoint) → (nearestAnswer v s ≡ Found a) ↔ ((pointCheck v s ≡ Passed) × (a ≡ nearest (corners s) v))
     answer-found = found (pointCheck v s)
+
+    -- what document 01 says of the call: an accepted outline, a point in range, and the answer that it lays down
+    pub call-answers : (a : NearestPoint)
+        → (nearestAnswer v s ≡ Found a) ↔ (((length s % 2 ≡ 0) × Accepted (corners s)) × InRange v × Answers (corners s) v a)
+    call-answers a = Iff·trans (answer-found a) (
+      λ (passes, is). (let (taken, in-range) = pointCheck-passed .0 passes in
+          let ok = accepted s .0 taken in (ok, in-range, answers-iff (accepted-polygon (ok .1)) v a .1 is)),
+      λ (ok, in-range, answers). (pointCheck-passed .1 (accepted s .1 ok, in-range), answers-iff (accepted-polygon (ok .1)) v a .0 answers),
+    )
+
+    -- or the first fault of the outline, or else 7
+    pub call-refuses : (f : Fault)
+        → (nearestAnswer v s ≡ Refused (refusal NoSide f))
+        ↔ ((Applies s f × ((g : Fault) → rank g < rank f → ¬ Applies s g))
+        ⊎ (((length s % 2 ≡ 0) × Accepted (corners s)) × (PointOutOfRange ≡ f) × ¬ InRange v))
+    call-refuses f = Iff·trans (answer-refused f) (Iff·trans (pointCheck-failed f) (
+      ⊎-map (first-stands s f .0) (λ (passes, is, out). (accepted s .0 passes, is, out)),
+      ⊎-map (first-stands s f .1) (λ (ok, is, out). (accepted s .1 ok, is, out)),
+    ))
 
     refused-first : (c d : Check) {r : Refusal} → verdict NoSide c ≡ NotTaken r → Refused r ≡ answerFor v s (c orElse d)
     refused-first Passed d e = cc

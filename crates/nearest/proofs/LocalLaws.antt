@@ -9,20 +9,18 @@ use Prim.Native.Nat.{ℕ, _<_}
 use mathlib.Core.Path.{_≡_, refl, subst}
 use mathlib.Core.Logic.{_↔_, _⊎_, inl, inr}
 use mathlib.Core.Bool.{Bool, true, false}
-use mathlib.Core.List.{List, [], _∷_}
+use mathlib.Core.List.{List}
 use native.Mathlib.Omega.{arith}
 use lib.IntN.{ℤ, pos, natAbs, _+ℤ_, _*ℤ_}
 use lib.ListN.{length}
 use lib.Signed.{_≤ℤ_, _<ℤ_, clashℤ, yes-nonNeg, pos-natAbs}
 use Rattle.integers.proofs.Order.{ltZ-false, <ℤ-≤ℤ, ≮ℤ-≤ℤ}
 use Rattle.integers.proofs.Reflect.{false-not}
-use Rattle.integers.proofs.Certificate.{_≺_, _≼_, _≗_, hyp, sq, _⊞_, _⊠_, prove}
 use Rattle.plane.specs.declared.Corner.{Corner}
 use Rattle.plane.specs.declared.Point.{Point}
-use Rattle.plane.specs.declared.Vector.{Vector}
 use Rattle.plane.specs.Point.{whole}
-use Rattle.plane.specs.Vector.{_⇀_, cross, dot, side, coordinates}
-use Rattle.plane.proofs.Algebra.{O, vec, crossE, dotE, _⇀E_, components, dot-self, dot-back, side-end}
+use Rattle.plane.specs.Vector.{_⇀_, dot, side}
+use Rattle.plane.proofs.Algebra.{dot-self, dot-back, side-end, apart-0, cross-length}
 use Rattle.plane.proofs.Cone.{cone}
 use Rattle.plane.proofs.Points.{whole-⇢}
 use Rattle.outline.specs.Convex.{Polygon}
@@ -37,23 +35,6 @@ use Rattle.nearest.proofs.PieceLaws.{whole-in-piece, inside-test}
 use Rattle.nearest.proofs.Support.{corner-in-piece, turns-left, corner-cone}
 use Rattle.nearest.proofs.Foot.{foot-left, foot-on-line, foot-after, foot-before, foot-bound}
 use Rattle.nearest.proofs.Walk.{corner-test, edge-test, PastEnd, PastStart, visible-past, forth, back, no-descent}
-
--- corners at squared distance 0 are the same
-apart-0 : (p q : Corner) → dot (p ⇀ q) (p ⇀ q) ≤ℤ pos 0 → p ≡ q
-unfolding dot _⇀_
-apart-0 p q none =
-    let p' = vec 0 in let q' = vec 2 in let a = p' ⇀E q' in λ i. record {
-      x = prove (coordinates (p ∷ q ∷ [])) (dotE a a ≼ O ∷ []) (p' .x ≗ q' .x) (hyp 0 ⊠ hyp 0 ⊞ hyp 1 ⊞ sq (a .y)) tt none i;
-      y = prove (coordinates (p ∷ q ∷ [])) (dotE a a ≼ O ∷ []) (p' .y ≗ q' .y) (hyp 0 ⊠ hyp 0 ⊞ hyp 1 ⊞ sq (a .x)) tt none i;
-    }
-
--- a vector that is strictly left of some vector has a length
-cross-length : (d e : Vector) → pos 0 <ℤ cross d e → pos 0 <ℤ dot e e
-unfolding cross dot
-cross-length d e =
-    let d' = vec 0 in let e' = vec 2 in
-    prove (components (d ∷ e ∷ [])) (O ≺ crossE d' e' ∷ []) (O ≺ dotE e' e')
-    (hyp 1 ⊠ hyp 1 ⊞ sq (dotE d' e') ⊞ hyp 0 ⊠ sq (d' .x) ⊞ hyp 0 ⊠ sq (d' .y)) tt
 
 module _ {cs : List Corner} (polygon : Polygon cs) (v : Corner) where
   pub length-above-0 : (i : ℕ) → i < length cs → pos 0 <ℤ squaredLength (corner cs i) (corner cs (next (length cs) i))

@@ -19,7 +19,6 @@ use mathlib.Core.List.{List·Memᴰ·eq-of-singleton, List·Memᴰ·append-cases
 use borrow.Author.Tests.{lt-ltb, le-ltb}
 use lib.IntN.{pos, _*ℤ_, ℤ-discrete}
 use lib.ListN.{length}
-use Rattle.integers.proofs.Reflect.{test-false}
 use Rattle.plane.specs.declared.Corner.{Corner}
 use Rattle.plane.specs.declared.Point.{Point}
 use Rattle.plane.specs.Point.{whole, Same}
@@ -39,7 +38,8 @@ use Rattle.nearest.proofs.NearestLaws.{others-farther}
 use Rattle.nearest.proofs.LocalLaws.{outside-test, edge-nearest}
 use Rattle.nearest.proofs.FitsLaws.{fits-unique}
 use Rattle.nearest.proofs.DistanceLaws.{squared-distance, gap-order-strict}
-use Rattle.nearest.proofs.AnswerLaws.{feature-tested, tested-answers}
+use Rattle.nearest.proofs.AnswerLaws.{feature-tested, tested-answers, within-iff}
+use Rattle.nearest.proofs.PieceLaws.{inside-test}
 
 -- What holds of b and of a holds of the one that a test picks.
 picked : (P : NearestPoint → Type 0) (t : Bool) (b a : NearestPoint) → P b → P a → P (cond t b a)
@@ -173,16 +173,11 @@ module _ {cs : List Corner} (polygon : Polygon cs) (v : Corner) where
             (others-farther polygon (whole-proper v) (tested-answers polygon v f holds .nearest) (d .in-piece) other))
       ]
 
-  -- Outside the piece the feature found is one that is tried, and in the piece it is Within.
+  -- Outside the piece the feature found is one that is tried.
   found-tried : Outside cs (whole v) → (f : Feature) → Tested cs v f → Tried cs v f
   found-tried outside Within holds = absurd (outside (tested-answers polygon v Within holds .fits .0))
   found-tried outside (AtCorner i) holds = holds .0
   found-tried outside (OnEdge i) holds = holds
-
-  found-within : ¬ Outside cs (whole v) → (f : Feature) → Tested cs v f → within v ≡ values cs v f
-  found-within inside Within holds = refl
-  found-within inside (AtCorner i) holds = absurd (inside (tested-answers polygon v (AtCorner i) holds .fits .0))
-  found-within inside (OnEdge i) holds = absurd (inside (tested-answers polygon v (OnEdge i) holds .fits .0))
 
   -- any list of what is tried, in any order and with repeats
   pub least-any-order : Outside cs (whole v) → (none : NearestPoint) (order : List NearestPoint)
@@ -204,5 +199,4 @@ module _ {cs : List Corner} (polygon : Polygon cs) (v : Corner) where
     where
       by-test : (t : Bool) → isOutside cs v ≡ t → cond t (leastOf (within v) (tried cs v)) (within v) ≡ nearest cs v
       by-test true holds = least-any-order (outside-test polygon v .0 holds) (within v) (tried cs v) (λ a. Iff·rfl)
-      by-test false fails =
-          found-within (test-false (isOutside cs v) (outside-test polygon v) .0 fails) (feature cs v) (feature-tested cs v)
+      by-test false fails = ap (values cs v) (sym (within-iff polygon v .1 (inside-test cs v .0 fails)))

@@ -11,14 +11,15 @@
 --     cramer-x, cramer-y              cross e f times d is cross d f times e plus cross e d times f, in each component
 --     cramer-dot, cramer-cross        the same, dotted with u; crossed with g
 --     dot-self                        a squared length is not negative
+--     apart-0, cross-length           points at squared distance 0 are the same; a vector strictly left of another has a length
 --     lagrange, cauchy-schwarz        cross² + dot² is the product of the squared lengths; so dot² is at most that
 use Prim.Native.Nat.{ℕ, suc}
 use mathlib.Core.Path.{_≡_}
 use mathlib.Core.List.{List, [], _∷_}
 use lib.IntN.{ℤ, pos, negℤ, _+ℤ_, _*ℤ_}
-use lib.Signed.{_≤ℤ_}
+use lib.Signed.{_≤ℤ_, _<ℤ_}
 use Rattle.integers.proofs.Polynomial.{Expr, var, lit, ⊝_, _⊕_, _⊖_, _⊗_, solve}
-use Rattle.integers.proofs.Certificate.{_≼_, hyp, sq, _⊞_, prove}
+use Rattle.integers.proofs.Certificate.{_≺_, _≼_, _≗_, hyp, sq, _⊞_, _⊠_, prove}
 use Rattle.plane.specs.Vector.{_⇀_, cross, dot, side, coordinates}
 use Rattle.plane.specs.declared.Corner.{Corner}
 use Rattle.plane.specs.declared.Vector.{Vector}
@@ -124,3 +125,19 @@ unfolding dot
 cauchy-schwarz a b =
     let a' = vec 0 in let b' = vec 2 in
     prove (components (a ∷ b ∷ [])) [] (dotE a' b' ⊗ dotE a' b' ≼ dotE a' a' ⊗ dotE b' b') (hyp 0 ⊞ sq (crossE a' b')) tt
+
+-- points at squared distance 0 are the same
+pub apart-0 : (p q : Corner) → dot (p ⇀ q) (p ⇀ q) ≤ℤ pos 0 → p ≡ q
+unfolding dot _⇀_
+apart-0 p q none =
+    let p' = vec 0 in let q' = vec 2 in let a = p' ⇀E q' in λ i. record {
+      x = prove (coordinates (p ∷ q ∷ [])) (dotE a a ≼ O ∷ []) (p' .x ≗ q' .x) (hyp 0 ⊠ hyp 0 ⊞ hyp 1 ⊞ sq (a .y)) tt none i;
+      y = prove (coordinates (p ∷ q ∷ [])) (dotE a a ≼ O ∷ []) (p' .y ≗ q' .y) (hyp 0 ⊠ hyp 0 ⊞ hyp 1 ⊞ sq (a .x)) tt none i;
+    }
+
+pub cross-length : (d e : Vector) → pos 0 <ℤ cross d e → pos 0 <ℤ dot e e
+unfolding cross dot
+cross-length d e =
+    let d' = vec 0 in let e' = vec 2 in
+    prove (components (d ∷ e ∷ [])) (O ≺ crossE d' e' ∷ []) (O ≺ dotE e' e')
+    (hyp 1 ⊠ hyp 1 ⊞ sq (dotE d' e') ⊞ hyp 0 ⊠ sq (d' .x) ⊞ hyp 0 ⊠ sq (d' .y)) tt
