@@ -125,7 +125,8 @@ module _ {cs : List Corner} (polygon : Polygon cs) (v : Corner) where
 
   -- Were v right of neither edge at the corner, it would be in the cone there, and the test says that only the corner is.
   pub corner-visible : (i : ℕ) → i < length cs → isCorner cs v i ≡ true
-      → (isRight v (corner cs i) (corner cs (next (length cs) i)) ≡ true) ⊎ (isRight v (corner cs (previous (length cs) i)) (corner cs i) ≡ true)
+      → (isRight v (corner cs i) (corner cs (next (length cs) i)) ≡ true)
+      ⊎ (isRight v (corner cs (previous (length cs) i)) (corner cs i) ≡ true)
   corner-visible i below holds = by-tests (isRight v c after) (isRight v before c) refl refl
     where
       before : Corner
@@ -143,4 +144,5 @@ module _ {cs : List Corner} (polygon : Polygon cs) (v : Corner) where
       by-tests false false out into =
           let ((other, behind), ahead) = corner-test v before c after .0 holds in
           absurd (other (apart-0 c v (cone (before ⇀ c) (c ⇀ after) (c ⇀ v) (c ⇀ v) (turns-left polygon i below)
-          (rw (side-end before c v) at (ltZ-false {a = side before c v} {b = pos 0} into)) (ltZ-false {a = side c after v} {b = pos 0} out) (dot-back (c ⇀ v) c before behind) ahead)))
+          (rw (side-end before c v) at (ltZ-false {a = side before c v} {b = pos 0} into))
+          (ltZ-false {a = side c after v} {b = pos 0} out) (dot-back (c ⇀ v) c before behind) ahead)))

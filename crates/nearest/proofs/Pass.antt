@@ -20,8 +20,9 @@ use Rattle.integers.proofs.Order.{<ℤ-ltZ}
 use Rattle.plane.specs.declared.Corner.{Corner}
 use Rattle.plane.specs.Range.{InRange}
 use Rattle.outline.specs.declared.Outline.{Outline}
-use Rattle.outline.specs.Convex.{AllInRange, Polygon}
+use Rattle.outline.specs.Convex.{Polygon, Accepted, IsOutline}
 use Rattle.outline.specs.Corners.{corner, next, previous, cornersOf}
+use Rattle.outline.proofs.Acceptance.{accepted-polygon}
 use Rattle.outline.proofs.CornersLaws.{next-below, previous-below, next-previous, previous-next}
 use Rattle.outline.proofs.HeldLaws.{cornersOf-corner}
 use Rattle.nearest.specs.declared.Feature.{Feature}
@@ -48,7 +49,8 @@ module _ (v before p q after : Corner) where
   Means End = cornerIsNearest v p q after ≡ true
 
   pub part-means : Means (nearestPart v before p q after)
-  part-means = by-tests (isRight v p q) (footIsBetween v p q) (cornerIsNearest v before p q) (cornerIsNearest v p q after) refl refl refl refl
+  part-means =
+      by-tests (isRight v p q) (footIsBetween v p q) (cornerIsNearest v before p q) (cornerIsNearest v p q after) refl refl refl refl
     where
       by-tests : (r b s e : Bool) → isRight v p q ≡ r → footIsBetween v p q ≡ b → cornerIsNearest v before p q ≡ s
           → cornerIsNearest v p q after ≡ e → Means (cond r (cond b Between (cond s Start (cond e End None))) None)
@@ -85,9 +87,10 @@ pub record Passing (cs : List Corner) (v : Corner) (i : ℕ) : Type 0 where
 pub pass-start : (cs : List Corner) (v : Corner) → Passing cs v 0
 pass-start cs v = record { none = λ k below. absurd (omega arith) }
 
-pub pass-none : {cs : List Corner} {v : Corner} {i : ℕ} → Polygon cs → Passing cs v i → length cs ≤ i → withinValues v ≡ nearest cs v
-pass-none {cs} {v} polygon pass past =
-    ap (values cs v) (sym (none-found cs v polygon (λ k below. pass .none k (omega arith)) (feature cs v) (feature-tested cs v)))
+pub pass-none : {cs : List Corner} {v : Corner} {i : ℕ} → Accepted cs → Passing cs v i → length cs ≤ i
+    → withinValues v ≡ nearest cs v
+pass-none {cs} {v} ok pass past =
+    ap (values cs v) (sym (none-found cs v (accepted-polygon ok) (λ k below. pass .none k (omega arith)) (feature cs v) (feature-tested cs v)))
 
 pub before-below : {n i b : ℕ} → b ≡ previous n i → i < n → b < n
 before-below {n} {i} is below = rw is (previous-below n i below)
@@ -96,6 +99,7 @@ pub after-below : {n i a : ℕ} → a ≡ next n i → i < n → a < n
 after-below {n} {i} is below = rw is (next-below n i (omega arith))
 
 pub record Turn (cs : List Corner) (i j : ℕ) (before p q after : Corner) : Type 0 where
+  pub ok : Accepted cs
   pub known : i < length cs
   pub following : j ≡ next (length cs) i
   pub before-is : before ≡ corner cs (previous (length cs) i)
@@ -103,10 +107,11 @@ pub record Turn (cs : List Corner) (i j : ℕ) (before p q after : Corner) : Typ
   pub end-is : q ≡ corner cs j
   pub after-is : after ≡ corner cs (next (length cs) j)
 
-pub turn-read : (o : Outline) {i j b a : ℕ} → o .count ≡ length (cornersOf o) → i < o .count → j ≡ next (o .count) i
+pub turn-read : (o : Outline) {i j b a : ℕ} → IsOutline o → o .count ≡ length (cornersOf o) → i < o .count → j ≡ next (o .count) i
     → b ≡ previous (o .count) i → a ≡ next (o .count) j
     → Turn (cornersOf o) i j (corner (o .corners) b) (corner (o .corners) i) (corner (o .corners) j) (corner (o .corners) a)
-turn-read o {i} {j} {b} {a} counted known j-is b-is a-is = record {
+turn-read o {i} {j} {b} {a} holds counted known j-is b-is a-is = record {
+  ok = holds .accepted;
   known = omega arith;
   following = cc;
   before-is = sym (cornersOf-corner o b (before-below b-is known)) ∙ cc;
@@ -119,8 +124,8 @@ module _ {cs : List Corner} {i j : ℕ} {before p q after : Corner} (turn : Turn
   end-below : j < length cs
   end-below = after-below (turn .following) (turn .known)
 
-  pub turn-range : AllInRange cs → InRange before × (InRange p × (InRange q × InRange after))
-  turn-range all = rw (turn .before-is, turn .start-is, turn .end-is, turn .after-is) (
+  pub turn-range : InRange before × (InRange p × (InRange q × InRange after))
+  turn-range = let all = turn .ok .in-range in rw (turn .before-is, turn .start-is, turn .end-is, turn .after-is) (
     all _ (before-below refl (turn .known)),
     (all i (turn .known), (all j end-below, all _ (after-below refl end-below))),
   )
@@ -128,7 +133,8 @@ module _ {cs : List Corner} {i j : ℕ} {before p q after : Corner} (turn : Turn
   module _ (v : Corner) {part : Part} (is : part ≡ nearestPart v before p q after) where
     -- what the part that is found says of the tests at edge i
     means : (r : Part) → part ≡ r
-        → Means v (corner cs (previous (length cs) i)) (corner cs i) (corner cs (next (length cs) i)) (corner cs (next (length cs) (next (length cs) i))) r
+        → (let n = length cs in
+        Means v (corner cs (previous n i)) (corner cs i) (corner cs (next n i)) (corner cs (next n (next n i))) r)
     means r e =
         let here = rw (turn .before-is, turn .start-is, turn .end-is, turn .after-is, turn .following) at (sym is ∙ e) in
         subst (Means v _ _ _ _) here (part-means v _ _ _ _)
@@ -138,17 +144,16 @@ module _ {cs : List Corner} {i j : ℕ} {before p q after : Corner} (turn : Turn
       none = λ k below. elim (ℕ-discrete k i) [ yes last ↦ rw last (means None e) | no other ↦ pass .none k (omega arith) ];
     }
 
-    module _ (polygon : Polygon cs) where
-      found : (f : Feature) → Tested cs v f → values cs v f ≡ nearest cs v
-      found f holds = ap (values cs v) (sym (feature-iff polygon v f .1 holds))
+    found : (f : Feature) → Tested cs v f → values cs v f ≡ nearest cs v
+    found f holds = ap (values cs v) (sym (feature-iff (accepted-polygon (turn .ok)) v f .1 holds))
 
-      pub turn-start : part ≡ Start → cornerValues v i p ≡ nearest cs v
-      turn-start e = rw (turn .start-is) (found (AtCorner i) (turn .known, means Start e))
+    pub turn-start : part ≡ Start → cornerValues v i p ≡ nearest cs v
+    turn-start e = rw (turn .start-is) (found (AtCorner i) (turn .known, means Start e))
 
-      pub turn-between : part ≡ Between → edgeValues v i p q ≡ nearest cs v
-      turn-between e = rw (turn .start-is, turn .end-is, turn .following) (found (OnEdge i) (turn .known, means Between e))
+    pub turn-between : part ≡ Between → edgeValues v i p q ≡ nearest cs v
+    turn-between e = rw (turn .start-is, turn .end-is, turn .following) (found (OnEdge i) (turn .known, means Between e))
 
-      pub turn-end : part ≡ End → cornerValues v j q ≡ nearest cs v
-      turn-end e =
-          let holds : isCorner cs v (next (length cs) i) ≡ true = rw (previous-next (length cs) i (turn .known)) (means End e) in
-          rw (turn .end-is, turn .following) (found (AtCorner (next (length cs) i)) (rw (turn .following) at end-below, holds))
+    pub turn-end : part ≡ End → cornerValues v j q ≡ nearest cs v
+    turn-end e =
+        let holds : isCorner cs v (next (length cs) i) ≡ true = rw (previous-next (length cs) i (turn .known)) (means End e) in
+        rw (turn .end-is, turn .following) (found (AtCorner (next (length cs) i)) (rw (turn .following) at end-below, holds))

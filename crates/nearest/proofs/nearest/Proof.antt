@@ -5,7 +5,6 @@ use native.Mathlib.Omega.{arith}
 use Prim.Native.Nat.{_-_}
 use lib.ListN.{length}
 use Rattle.outline.specs.Corners.{corner, most, cornersOf}
-use Rattle.outline.proofs.Acceptance.{accepted-polygon}
 use Rattle.outline.proofs.HeldLaws.{length-cornersOf, length-mapped}
 use Rattle.nearest.proofs.Pass.{before-below, after-below, Passing, pass-start, pass-none}
 use Rattle.nearest.proofs.Pass.{Turn, turn-read, turn-range, turn-start, turn-between, turn-end, turn-on}
@@ -50,13 +49,14 @@ element-copy-out-p : tie.Need-element-copy-out-p Inv-loop μ-loop
 element-copy-out-p c = omega arith
 
 mul-q : tie.Need-mul-q Inv-loop μ-loop
-mul-q c = omega (arith, after-below (c .before .before .before .next .ensures) (c .before .before .before .before .loop-test .taken))
+mul-q c = let read = c .before .before .before in omega (arith, after-below (read .next .ensures) (read .before .loop-test .taken))
 
 element-copy-out-q : tie.Need-element-copy-out-q Inv-loop μ-loop
-element-copy-out-q c = omega (arith, after-below (c .before .before .before .next .ensures) (c .before .before .before .before .loop-test .taken))
+element-copy-out-q c =
+    let read = c .before .before .before in omega (arith, after-below (read .next .ensures) (read .before .loop-test .taken))
 
 next-requires-2 : tie.Need-next-requires-2 Inv-loop μ-loop
-next-requires-2 c κs = after-below (c .before .before .before .before .next .ensures) (c .before .before .before .before .before .loop-test .taken)
+next-requires-2 c κs = let read = c .before .before .before .before in after-below (read .next .ensures) (read .before .loop-test .taken)
 
 mul-after : tie.Need-mul-after Inv-loop μ-loop
 mul-after c = omega (arith, after-below (c .next2 .ensures) (next-requires-2 (c .before) tt))
@@ -79,17 +79,18 @@ turn-at : (c : lts.After-after (
   within.Asked,
   within.Learnt,
 ) reads.Pre reads.Post Inv-loop μ-loop)
-    → (let start = c .before .before .before .before .before .before .before .before .before in let o = start .args .t1 in let i = c .before .before .before .before .before .before .before .before .loop .i in let j = c .before .before .before .before .before .before .next .result in
-    Turn (cornersOf o) i j (corner (o .corners) (c .before .before .before .before .before .previous .result)) (corner (o .corners) i) (corner (o .corners) j)
-    (corner (o .corners) (c .before .next2 .result)))
+    → (let i = c .before .before .before .before .before .before .before .before .loop .i in
+    let j = c .before .before .before .before .before .before .next .result in
+    let o = c .before .before .before .before .before .before .before .before .before .args .t1 in
+    Turn (cornersOf o) i j (corner (o .corners) (c .before .before .before .before .before .previous .result)) (corner (o .corners) i)
+    (corner (o .corners) j) (corner (o .corners) (c .before .next2 .result)))
 turn-at c =
     let read = c .before .before .before .before .before .before in
-    turn-read _ (read .before .before .loop .inv .0) (read .before .loop-test .taken) (read .next .ensures)
-    (c .before .before .before .before .before .previous .ensures) (c .before .next2 .ensures)
+    turn-read _ (read .before .before .before .pre .0) (read .before .before .loop .inv .0) (read .before .loop-test .taken)
+    (read .next .ensures) (c .before .before .before .before .before .previous .ensures) (c .before .next2 .ensures)
 
 nearest-part-requires : tie.Need-nearest-part-requires Inv-loop μ-loop
-nearest-part-requires c κs =
-    let pre = c .before .before .before .before .before .before .before .before .before .pre in (pre .1, turn-range (turn-at c) (pre .0 .accepted .in-range))
+nearest-part-requires c κs = (c .before .before .before .before .before .before .before .before .before .pre .1, turn-range (turn-at c))
 
 enum-told : tie.Need-enum-told Inv-loop μ-loop
 enum-told c = search needs
@@ -103,8 +104,7 @@ at-corner-requires c κs = let (v, (_, (p, _))) = nearest-part-requires (c .befo
 returns : tie.Need-returns Inv-loop μ-loop
 returns c =
     let part = c .before .before .before in
-    let polygon = accepted-polygon (part .before .before .before .before .before .before .before .before .before .before .pre .0 .accepted) in
-    c .at-corner .ensures ∙ turn-start (turn-at (part .before)) _ (part .nearest-part .ensures) polygon (c .before .enum-told2 .given .1)
+    c .at-corner .ensures ∙ turn-start (turn-at (part .before)) _ (part .nearest-part .ensures) (c .before .enum-told2 .given .1)
 
 enum-told-3 : tie.Need-enum-told-3 Inv-loop μ-loop
 enum-told-3 c = search needs
@@ -115,8 +115,7 @@ on-edge-requires c κs = let (v, (_, (p, (q, _)))) = nearest-part-requires (c .b
 returns-2 : tie.Need-returns-2 Inv-loop μ-loop
 returns-2 c =
     let part = c .before .before .before in
-    let polygon = accepted-polygon (part .before .before .before .before .before .before .before .before .before .before .pre .0 .accepted) in
-    c .on-edge .ensures ∙ turn-between (turn-at (part .before)) _ (part .nearest-part .ensures) polygon (c .before .enum-told3 .given .1)
+    c .on-edge .ensures ∙ turn-between (turn-at (part .before)) _ (part .nearest-part .ensures) (c .before .enum-told3 .given .1)
 
 enum-told-4 : tie.Need-enum-told-4 Inv-loop μ-loop
 enum-told-4 c = search needs
@@ -127,8 +126,7 @@ at-corner-requires-2 c κs = let (v, (_, (_, (q, _)))) = nearest-part-requires (
 returns-3 : tie.Need-returns-3 Inv-loop μ-loop
 returns-3 c =
     let part = c .before .before .before in
-    let polygon = accepted-polygon (part .before .before .before .before .before .before .before .before .before .before .pre .0 .accepted) in
-    c .at-corner2 .ensures ∙ turn-end (turn-at (part .before)) _ (part .nearest-part .ensures) polygon (c .before .enum-told4 .given .1)
+    c .at-corner2 .ensures ∙ turn-end (turn-at (part .before)) _ (part .nearest-part .ensures) (c .before .enum-told4 .given .1)
 
 add-i : tie.Need-add-i Inv-loop μ-loop
 add-i c = omega arith
@@ -147,8 +145,8 @@ within-requires c κs = search needs
 
 returns-4 : tie.Need-returns-4 Inv-loop μ-loop
 returns-4 c =
-    let polygon = accepted-polygon (c .before .before .before .pre .0 .accepted) in
-    c .within .ensures ∙ pass-none polygon (c .before .before .loop .inv .1) (omega arith)
+    c .within .ensures
+    ∙ pass-none (c .before .before .before .pre .0 .accepted) (c .before .before .loop .inv .1) (omega arith)
 
 pub nearest-spec : {M : Type 1} → statement M
 nearest-spec =
