@@ -3,6 +3,7 @@
 pub mod Ring
 pub mod Order
 pub mod Greatest
+pub mod Descent
 pub mod Polynomial
 pub mod Certificate
 pub mod Reflect

@@ -1,7 +1,6 @@
 -- A Boolean test and its meaning: what `(b ≡ true) ↔ P` gives of the other tests made of b.
 --     test-false     the test fails exactly where P does not hold
 --     test-not       the negated test
---     false-not      the test holds exactly where what it fails for does not
 --     test-stable    P holds where it cannot fail to
 --     test-same      two tests with one meaning are equal
 --     test-and       two tests
@@ -25,10 +24,6 @@ module _ {P : Type 0} where
 
   pub test-not : (b : Bool) → ((b ≡ true) ↔ P) → ((not b ≡ true) ↔ (¬ P))
   test-not b means = Iff·trans (not-true b, ap not) (test-false b means)
-
-  pub false-not : (b : Bool) → ((b ≡ false) ↔ P) → ((b ≡ true) ↔ (¬ P))
-  false-not true means = (λ _ p. true≢false (means .1 p), λ _. refl)
-  false-not false means = (λ e. absurd (false≢true e), λ none. absurd (none (means .0 refl)))
 
   pub test-stable : (b : Bool) → ((b ≡ true) ↔ P) → ¬ ¬ P → P
   test-stable true means twice = means .0 refl

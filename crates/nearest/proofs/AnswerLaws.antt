@@ -108,20 +108,16 @@ module _ {cs : List Corner} (polygon : Polygon cs) (v : Corner) where
   pub nearest-distance : SquaredDistance (whole v) (nearest cs v .point) (nearest cs v .gap)
   nearest-distance = squared-distance polygon v (feature cs v) (tested-known cs v (feature cs v) (feature-tested cs v))
 
+  answers-feature : (f : Feature) → Answers cs v (values cs v f) → feature cs v ≡ f
+  answers-feature f is =
+      sym (values-feature cs v (feature cs v)) ∙ ap (λ (a : NearestPoint). a .feature) (sym (answers-iff (values cs v f) .0 is))
+      ∙ values-feature cs v f
+
   pub feature-iff : (f : Feature) → (feature cs v ≡ f) ↔ Tested cs v f
-  feature-iff f = (
-    λ is. subst (Tested cs v) is (feature-tested cs v),
-    λ holds. sym (values-feature cs v (feature cs v))
-        ∙ ap (λ (a : NearestPoint). a .feature) (sym (answers-iff (values cs v f) .0 (tested-answers f holds))) ∙ values-feature cs v f,
-  )
+  feature-iff f = (λ is. subst (Tested cs v) is (feature-tested cs v), λ holds. answers-feature f (tested-answers f holds))
 
   pub local-agrees : (f : Feature) → Tested cs v f ↔ Answers cs v (values cs v f)
-  local-agrees f = (
-    tested-answers f,
-    λ is. feature-iff f .0
-        (sym (values-feature cs v (feature cs v)) ∙ ap (λ (a : NearestPoint). a .feature) (sym (answers-iff (values cs v f) .0 is))
-        ∙ values-feature cs v f),
-  )
+  local-agrees f = (tested-answers f, λ is. feature-iff f .0 (answers-feature f is))
 
   pub within-iff : (feature cs v ≡ Within) ↔ InPiece cs (whole v)
   within-iff = (

@@ -1,6 +1,5 @@
 -- The local tests tell the nearest point, and outside the piece one of them holds.
 --     length-above-0    the squared length of an edge is above 0
---     outside-test      `isOutside` holds exactly of points outside the piece
 --     corner-nearest    a corner whose test holds is the nearest point, and v is outside the piece
 --     edge-nearest      an edge whose test holds has the nearest point strictly between its ends, and v is outside the piece
 --     none-holds        where no test holds, v is in the piece
@@ -13,9 +12,9 @@ use mathlib.Core.List.{List}
 use native.Mathlib.Omega.{arith}
 use lib.IntN.{ℤ, pos, natAbs, _+ℤ_, _*ℤ_}
 use lib.ListN.{length}
-use lib.Signed.{_≤ℤ_, _<ℤ_, clashℤ, yes-nonNeg, pos-natAbs}
-use Rattle.integers.proofs.Order.{ltZ-false, <ℤ-≤ℤ, ≮ℤ-≤ℤ}
-use Rattle.integers.proofs.Reflect.{false-not}
+use lib.Signed.{_≤ℤ_, _<ℤ_, clashℤ}
+use Rattle.integers.proofs.Order.{ltZ-false, ≮ℤ-≤ℤ, natAbs-nonneg}
+use Rattle.integers.proofs.Descent.{no-descent}
 use Rattle.plane.specs.declared.Corner.{Corner}
 use Rattle.plane.specs.declared.Point.{Point}
 use Rattle.plane.specs.Point.{whole}
@@ -32,16 +31,13 @@ use Rattle.nearest.specs.Feature.{squaredLength, along, values}
 use Rattle.nearest.specs.Nearest.{Nearest, Between}
 use Rattle.nearest.specs.Local.{isRight, isCorner, isEdge}
 use Rattle.nearest.proofs.PieceLaws.{whole-in-piece, inside-test}
-use Rattle.nearest.proofs.Support.{corner-in-piece, turns-left, corner-cone}
+use Rattle.nearest.proofs.Support.{not-right, corner-in-piece, turns-left, corner-cone}
 use Rattle.nearest.proofs.Foot.{foot-left, foot-on-line, foot-after, foot-before, foot-bound}
-use Rattle.nearest.proofs.Walk.{corner-test, edge-test, PastEnd, PastStart, visible-past, forth, back, no-descent}
+use Rattle.nearest.proofs.Walk.{corner-test, edge-test, PastEnd, PastStart, visible-past, forth, back}
 
 module _ {cs : List Corner} (polygon : Polygon cs) (v : Corner) where
   pub length-above-0 : (i : ℕ) → i < length cs → pos 0 <ℤ squaredLength (corner cs i) (corner cs (next (length cs) i))
   length-above-0 i below = cross-length _ _ (turns-left polygon i below)
-
-  pub outside-test : (isOutside cs v ≡ true) ↔ Outside cs (whole v)
-  outside-test = false-not (isOutside cs v) (inside-test cs v)
 
   -- the cone at a corner whose test holds has the piece in it, and v not
   pub corner-nearest : (i : ℕ) → i < length cs → isCorner cs v i ≡ true
@@ -57,10 +53,6 @@ module _ {cs : List Corner} (polygon : Polygon cs) (v : Corner) where
         λ inside. other (apart-0 c v (rw (whole-⇢ c v) at (bound (whole v) inside))),
       )
 
-  -- every corner is right of no edge
-  corner-left : (i j : ℕ) → i < length cs → j < length cs → pos 0 ≤ℤ side (corner cs i) (corner cs (next (length cs) i)) (corner cs j)
-  corner-left i j below known = whole-in-piece cs (corner cs j) .0 (corner-in-piece polygon j known) i below
-
   -- the nearest point is the foot of v on the edge: the answer's point, with n for the edge's squared length
   pub edge-nearest : (i : ℕ) → i < length cs → isEdge cs v i ≡ true
       → Nearest cs (whole v) (values cs v (OnEdge i) .point) × Between cs i (values cs v (OnEdge i) .point) × Outside cs (whole v)
@@ -71,7 +63,7 @@ module _ {cs : List Corner} (polygon : Polygon cs) (v : Corner) where
       let n = natAbs (squaredLength p q) in
       let (visible, (after, before)) = edge-test v p q .0 holds in
       let long = length-above-0 i below in
-      let is-n : pos n ≡ squaredLength p q = pos-natAbs _ (yes-nonNeg (<ℤ-≤ℤ long)) in
+      let is-n : pos n ≡ squaredLength p q = natAbs-nonneg (dot-self (p ⇀ q)) in
       let long-n : pos 0 <ℤ pos n = rw is-n long in
       let before-n : t <ℤ pos n = rw is-n before in
       subst (λ (y : Point). Nearest cs (whole v) y × Between cs i y × Outside cs (whole v))
@@ -80,9 +72,9 @@ module _ {cs : List Corner} (polygon : Polygon cs) (v : Corner) where
           in-piece = record {
             proper = long-n;
             right-of-none = λ j known. foot-left n t p q (corner cs j) (corner cs (next (length cs) j)) after before-n
-                (corner-left j i known below) (corner-left j (next (length cs) i) known (next-below (length cs) i (omega arith)));
+                (not-right polygon j i known below) (not-right polygon j (next (length cs) i) known (next-below (length cs) i (omega arith)));
           };
-          at-most-0 = λ j known. foot-bound n t p q v (corner cs j) is-n refl long-n visible (corner-left i j below known);
+          at-most-0 = λ j known. foot-bound n t p q v (corner cs j) is-n refl long-n visible (not-right polygon i j below known);
         },
         record {
           on-line = foot-on-line n t p q;
@@ -143,6 +135,8 @@ module _ {cs : List Corner} (polygon : Polygon cs) (v : Corner) where
       by-tests false true _ _ = inr refl
       by-tests false false out into =
           let ((other, behind), ahead) = corner-test v before c after .0 holds in
-          absurd (other (apart-0 c v (cone (before ⇀ c) (c ⇀ after) (c ⇀ v) (c ⇀ v) (turns-left polygon i below)
-          (rw (side-end before c v) at (ltZ-false {a = side before c v} {b = pos 0} into))
-          (ltZ-false {a = side c after v} {b = pos 0} out) (dot-back (c ⇀ v) c before behind) ahead)))
+          let left-of-into = rw (side-end before c v) at (ltZ-false {a = side before c v} {b = pos 0} into) in
+          let left-of-out = ltZ-false {a = side c after v} {b = pos 0} out in
+          let in-cone = cone (before ⇀ c) (c ⇀ after) (c ⇀ v) (c ⇀ v) (turns-left polygon i below) left-of-into left-of-out
+          (dot-back (c ⇀ v) c before behind) ahead in
+          absurd (other (apart-0 c v in-cone))

@@ -35,11 +35,11 @@ use Rattle.nearest.specs.Local.{isEdge, Tested, feature, nearest}
 use Rattle.nearest.specs.Search.{within, triedCorners, triedEdges, tried, isLess, least, leastOf, search}
 use Rattle.nearest.proofs.Support.{corner-in-piece}
 use Rattle.nearest.proofs.NearestLaws.{others-farther}
-use Rattle.nearest.proofs.LocalLaws.{outside-test, edge-nearest}
+use Rattle.nearest.proofs.LocalLaws.{edge-nearest}
 use Rattle.nearest.proofs.FitsLaws.{fits-unique}
 use Rattle.nearest.proofs.DistanceLaws.{squared-distance, gap-order-strict}
 use Rattle.nearest.proofs.AnswerLaws.{feature-tested, tested-answers, within-iff}
-use Rattle.nearest.proofs.PieceLaws.{inside-test}
+use Rattle.nearest.proofs.PieceLaws.{outside-test, inside-test}
 
 -- What holds of b and of a holds of the one that a test picks.
 picked : (P : NearestPoint → Type 0) (t : Bool) (b a : NearestPoint) → P b → P a → P (cond t b a)
@@ -198,5 +198,5 @@ module _ {cs : List Corner} (polygon : Polygon cs) (v : Corner) where
   search-nearest = by-test (isOutside cs v) refl
     where
       by-test : (t : Bool) → isOutside cs v ≡ t → cond t (leastOf (within v) (tried cs v)) (within v) ≡ nearest cs v
-      by-test true holds = least-any-order (outside-test polygon v .0 holds) (within v) (tried cs v) (λ a. Iff·rfl)
+      by-test true holds = least-any-order (outside-test cs v .0 holds) (within v) (tried cs v) (λ a. Iff·rfl)
       by-test false fails = ap (values cs v) (sym (within-iff polygon v .1 (inside-test cs v .0 fails)))

@@ -1,10 +1,10 @@
 -- The piece of a polygon, seen from one of its corners and from a direction.
+--     not-right          no corner is right of an edge
 --     corner-in-piece    a corner is in the piece
 --     turns-left         the edge into a corner and the edge out of it turn left
 --     corner-cone        a linear bound at the two neighbours of a corner holds in the piece
 --     support            for every direction some corner is extreme: no point of the piece lies farther in that direction
 use Prim.Native.Nat.{ℕ, _<_}
-use mathlib.Core.Path.{_∙_}
 use mathlib.Core.List.{List}
 use native.Mathlib.Decide.{ℕ-discrete}
 use native.Mathlib.Omega.{arith}
@@ -18,7 +18,7 @@ use Rattle.plane.specs.declared.Point.{Point}
 use Rattle.plane.specs.declared.Vector.{Vector}
 use Rattle.plane.specs.Point.{whole, _⇢_}
 use Rattle.plane.specs.Vector.{_⇀_, cross, dot, side}
-use Rattle.plane.proofs.Algebra.{side-end, side-turn, side-same, dot-back, dot-less}
+use Rattle.plane.proofs.Algebra.{side-end, side-start, side-stop, dot-back, dot-less}
 use Rattle.plane.proofs.Cone.{cone}
 use Rattle.plane.proofs.Points.{whole-proper, whole-⇢, line-end}
 use Rattle.outline.specs.Convex.{Polygon}
@@ -28,13 +28,13 @@ use Rattle.nearest.specs.Piece.{edge, InPiece}
 
 module _ {cs : List Corner} (polygon : Polygon cs) where
   -- no corner is right of an edge: it is an end of the edge, with side number 0, or strictly left
-  not-right : (e i : ℕ) → e < length cs → i < length cs → pos 0 ≤ℤ side (corner cs e) (corner cs (next (length cs) e)) (corner cs i)
+  pub not-right : (e i : ℕ) → e < length cs → i < length cs → pos 0 ≤ℤ side (corner cs e) (corner cs (next (length cs) e)) (corner cs i)
   not-right e i known below =
       let p = corner cs e in let q = corner cs (next (length cs) e) in
       elim (ℕ-discrete i e) [
-        | yes start ↦ rw (start, side-turn p q p ∙ side-turn q p p ∙ side-same p q) (≤ℤ-refl (pos 0))
+        | yes start ↦ rw (start, side-start p q) (≤ℤ-refl (pos 0))
         | no a ↦ elim (ℕ-discrete i (next (length cs) e)) [
-          | yes end ↦ rw (end, side-turn p q q ∙ side-same q p) (≤ℤ-refl (pos 0))
+          | yes end ↦ rw (end, side-stop p q) (≤ℤ-refl (pos 0))
           | no b ↦ <ℤ-≤ℤ (polygon .convex e i known below a b)
         ]
       ]

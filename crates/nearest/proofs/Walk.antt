@@ -6,7 +6,7 @@
 --     forth                    at a corner whose test fails, past the end of the edge into it: if the test of the edge out of it fails
 --                              too, v is past the end of that edge, and nearer to that end than to the corner
 --     back                     the mirror, from the start of the edge out of a corner to that of the edge into it
---     no-descent               nothing holds that holds on and on while a number that is never below 0 falls
+--     square-at-start, square-at-end    where the foot of v on an edge is an end, the test of that corner holds
 use Prim.Native.Nat.{ℕ, zero, suc, _<_}
 use mathlib.Core.Path.{_≡_}
 use mathlib.Core.Logic.{_↔_, _≢_, _⊎_, inl, inr, ⊎-elim}
@@ -15,15 +15,15 @@ use mathlib.Core.List.{[], _∷_}
 use native.Mathlib.Omega.{arith}
 use lib.Dec.{ltb→lt}
 use lib.IntN.{ℤ, pos, negsuc, natAbs}
-use lib.Signed.{_≤ℤ_, _<ℤ_, ≤ℤ-refl, clashℤ}
+use lib.Signed.{_≤ℤ_, _<ℤ_, ≤ℤ-refl, <ℤ-irrefl, clashℤ}
 use Rattle.integers.proofs.Order.{ltZ-true, <ℤ-ltZ, ≤ℤ-or-<ℤ, ≰ℤ-<ℤ}
 use Rattle.integers.proofs.Reflect.{test-false, test-not, test-and, test-leZ}
 use Rattle.integers.proofs.Polynomial.{⊝_}
-use Rattle.integers.proofs.Certificate.{_≺_, _≼_, _≗_, hyp, sq, eqn, _⊞_, _⊠_, refute, prove}
+use Rattle.integers.proofs.Certificate.{_≺_, _≼_, _≗_, hyp, sq, eqn, _⊞_, _⊠_, prove}
 use Rattle.plane.specs.declared.Corner.{Corner}
 use Rattle.plane.specs.declared.Vector.{Vector}
 use Rattle.plane.specs.Vector.{_⇀_, cross, dot, side, coordinates}
-use Rattle.plane.proofs.Algebra.{O, vec, crossE, dotE, sideE, _⇀E_, side-end, dot-back}
+use Rattle.plane.proofs.Algebra.{O, vec, crossE, dotE, sideE, _⇀E_, side-end, side-start, side-stop, dot-back}
 use Rattle.plane.proofs.Cone.{turn-next, turn-previous}
 use Rattle.plane.proofs.Tests.{same-true}
 use Rattle.nearest.specs.Feature.{squaredLength, along}
@@ -69,12 +69,10 @@ visible-past v p q visible fails =
 
 -- an edge is not visible from its ends
 not-from-start : (p q : Corner) → ¬ (side p q p <ℤ pos 0)
-unfolding cross _⇀_
-not-from-start p q = refute (coordinates (p ∷ q ∷ [])) (sideE (vec 0) (vec 2) (vec 0) ≺ O ∷ []) (hyp 0) tt
+not-from-start p q visible = <ℤ-irrefl (rw (side-start p q) at visible)
 
 not-from-end : (p q : Corner) → ¬ (side p q q <ℤ pos 0)
-unfolding cross _⇀_
-not-from-end p q = refute (coordinates (p ∷ q ∷ [])) (sideE (vec 0) (vec 2) (vec 2) ≺ O ∷ []) (hyp 0) tt
+not-from-end p q visible = <ℤ-irrefl (rw (side-stop p q) at visible)
 
 -- along an edge the other way round
 backward-strict : (d : Vector) (p q : Corner) → pos 0 <ℤ dot d (q ⇀ p) → dot d (p ⇀ q) <ℤ pos 0
@@ -147,19 +145,3 @@ module _ (v p q r : Corner) (left : pos 0 <ℤ cross (p ⇀ q) (q ⇀ r)) (fails
       let visible : side p q v <ℤ pos 0 = rw (side-end p q v) turned in
       let behind : Behind v p q = ⊎-elim (λ b. b) (clashℤ ahead) (visible-past v p q visible edge-fails) in
       (record { visible = visible; behind = behind }, nearer-end v q p ahead behind)
-
--- sizes that are never below 0 are natural numbers
-natAbs-< : (a b : ℤ) → pos 0 ≤ℤ a → a <ℤ b → natAbs a < natAbs b
-natAbs-< (pos a) (pos b) h k = ltb→lt a b (k .lt)
-natAbs-< (pos a) (negsuc b) h k = absurd (k .lt)
-natAbs-< (negsuc a) b h k = absurd (h .le)
-
-pub no-descent : (P : ℕ → Type 0) (step : ℕ → ℕ) (size : ℕ → ℤ) → ((i : ℕ) → pos 0 ≤ℤ size i)
-    → ((i : ℕ) → P i → P (step i) × (size (step i) <ℤ size i)) → (i : ℕ) → ¬ P i
-no-descent P step size from-0 falls i holds = below (suc (natAbs (size i))) i (omega arith) holds
-  where
-    below : (bound i : ℕ) → natAbs (size i) < bound → ¬ P i
-    below zero i less holds = omega arith
-    below (suc bound) i less holds =
-        let (on, falls-on) = falls i holds in
-        below bound (step i) (omega (arith, natAbs-< (size (step i)) (size i) (from-0 (step i)) falls-on)) on

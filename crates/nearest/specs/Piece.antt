@@ -2,18 +2,19 @@
 --     edge, sideOf        the differences of edge i; the side number of a point against it
 --     InPiece, Outside    a point is in the piece, or it is not
 --     isOutside           the test of a point with whole coordinates
-use Prim.Native.Nat.{ℕ, zero, suc, _<_}
-use mathlib.Core.Bool.{Bool, false, _||_}
+use Prim.Native.Nat.{ℕ, _<_}
+use mathlib.Core.Bool.{Bool, not}
 use mathlib.Core.List.{List}
 use lib.IntN.{ℤ, pos}
 use lib.ListN.{length}
-use lib.Signed.{ltZ, _≤ℤ_}
+use lib.Signed.{leZ, _≤ℤ_}
 use Rattle.plane.specs.declared.Corner.{Corner}
 use Rattle.plane.specs.declared.Point.{Point}
 use Rattle.plane.specs.declared.Vector.{Vector}
 use Rattle.plane.specs.Point.{Proper, whole, _⇢_}
 use Rattle.plane.specs.Vector.{_⇀_, cross, side}
 use Rattle.outline.specs.Corners.{corner, next}
+use Rattle.outline.specs.Turns.{all}
 
 -- edge i runs from corner i to the following one
 abbrev pub edge : List Corner → ℕ → Vector
@@ -30,11 +31,6 @@ pub record InPiece (cs : List Corner) (z : Point) : Type 0 where
 abbrev pub Outside : List Corner → Point → Type 0
 Outside cs z = ¬ InPiece cs z
 
--- a test holds of some number below n
-unfoldable pub any : (ℕ → Bool) → ℕ → Bool
-any test zero = false
-any test (suc n) = any test n || test n
-
--- strictly right of some edge
+-- not: strictly right of no edge
 abbrev pub isOutside : List Corner → Corner → Bool
-isOutside cs v = any (λ i. ltZ (side (corner cs i) (corner cs (next (length cs) i)) v) (pos 0)) (length cs)
+isOutside cs v = not (all (λ i. leZ (pos 0) (side (corner cs i) (corner cs (next (length cs) i)) v)) (length cs))

@@ -1,4 +1,5 @@
 -- The test of strict convexity in one pass is right.
+--     all-true             `all` holds exactly where the test passes at each number below n
 --     isConvex-true        corners pass the test exactly where they are strictly convex
 --     Passing, pass-..     the invariant of a loop that makes tests in order, and its steps
 use Prim.Native.Nat.{ℕ, zero, suc, _+_, _-_, _<_, _≤_}
@@ -25,7 +26,7 @@ use Rattle.outline.specs.Corners.{corner}
 use Rattle.outline.specs.Turns.{all, keepsLeftAt, isConvex}
 use Rattle.outline.proofs.LeftTurns.{Left, LeftTurns, left-turn, left-turn-back, convex-turns, turns-convex}
 
-all-true : (test : ℕ → Bool) (n : ℕ) → (all test n ≡ true) ↔ ((i : ℕ) → i < n → test i ≡ true)
+pub all-true : (test : ℕ → Bool) (n : ℕ) → (all test n ≡ true) ↔ ((i : ℕ) → i < n → test i ≡ true)
 unfolding all
 all-true test zero = (λ _ i below. absurd (omega arith), λ _. refl)
 all-true test (suc n) = Iff·trans (test-and (all test n) (test n) (all-true test n) (λ e. e, λ e. e)) (

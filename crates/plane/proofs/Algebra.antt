@@ -7,6 +7,7 @@
 --     cross-swap, dot-swap            the arguments exchanged
 --     side-end, side-turn             a side number from the edge's other end; of three points taken round
 --     side-same                       against an edge from a point to itself it is 0
+--     side-start, side-stop           and so it is of the edge's own ends
 --     dot-less, dot-back              dot u is not above 0 from p to q where it is not greater at q; and then not below 0 from q to p
 --     cramer-x, cramer-y              cross e f times d is cross d f times e plus cross e d times f, in each component
 --     cramer-dot, cramer-cross        the same, dotted with u; crossed with g
@@ -70,6 +71,14 @@ side-turn p q v = solve (coordinates (p ∷ q ∷ v ∷ [])) (sideE (vec 0) (vec
 pub side-same : (p v : Corner) → side p p v ≡ pos 0
 unfolding cross _⇀_
 side-same p v = solve (coordinates (p ∷ v ∷ [])) (sideE (vec 0) (vec 0) (vec 2)) O tt
+
+pub side-start : (p q : Corner) → side p q p ≡ pos 0
+unfolding cross _⇀_
+side-start p q = solve (coordinates (p ∷ q ∷ [])) (sideE (vec 0) (vec 2) (vec 0)) O tt
+
+pub side-stop : (p q : Corner) → side p q q ≡ pos 0
+unfolding cross _⇀_
+side-stop p q = solve (coordinates (p ∷ q ∷ [])) (sideE (vec 0) (vec 2) (vec 2)) O tt
 
 -- dot u at a point is measured from any one point o
 pub dot-less : (u : Vector) (o p q : Corner) → dot u (o ⇀ q) ≤ℤ dot u (o ⇀ p) → dot u (p ⇀ q) ≤ℤ pos 0
