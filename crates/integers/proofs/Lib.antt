@@ -6,6 +6,7 @@ pub mod Greatest
 pub mod Descent
 pub mod Polynomial
 pub mod Certificate
+pub mod Signs
 pub mod Reflect
 pub mod Machine
 pub mod FractionLaws

@@ -11,19 +11,21 @@ use native.Mathlib.Nat.{one-mul}
 use mathlib.Core.Path.{_≡_, refl, sym, ap, _∙_}
 use mathlib.Core.Logic.{_↔_}
 use mathlib.Core.List.{List, [], _∷_, _++_}
-use lib.IntN.{ℤ, pos, _*ℤ_, *ℤ-zero, *ℤ-comm}
+use lib.IntN.{ℤ, pos, _-ℤ_, _*ℤ_, *ℤ-zero, *ℤ-comm}
 use lib.ListN.{length, getD, length-map, List·getD-map}
 use lib.Signed.{_≤ℤ_, _<ℤ_, ≤ℤ-refl}
-use Rattle.integers.proofs.Polynomial.{Expr, var, lit, _⊗_, solve}
-use Rattle.integers.proofs.Order.{*ℤ-pos, *ℤ-nonneg, <ℤ-≤ℤ, ≤ℤ-antisym}
+use Rattle.integers.proofs.Polynomial.{Expr, var, lit, _⊖_, _⊗_, solve}
+use Rattle.integers.proofs.Order.{*ℤ-pos, *ℤ-nonneg, <ℤ-≤ℤ}
+use Rattle.integers.proofs.Signs.{factor-pos, factor-nonneg, factor-zero, product-nonpos}
 use Rattle.integers.proofs.Certificate.{_≺_, _≼_, _≗_, hyp, eqn, _⊞_, _⊠_, prove}
 use Rattle.integers.specs.declared.fraction.Fraction.{Fraction}
 use Rattle.plane.specs.declared.Corner.{Corner}
 use Rattle.plane.specs.declared.Point.{Point}
+use Rattle.plane.specs.declared.Vector.{Vector}
 use Rattle.plane.specs.Point.{Proper, whole, _⇢_, Same}
 use Rattle.plane.specs.Vector.{_⇀_, cross, dot, side, coordinates}
 use Rattle.plane.proofs.Algebra.{VecE, O, vec, crossE, dotE, _⇀E_, sideE}
-use Rattle.plane.proofs.Points.{PointE, pt, wholeE, _⇢E_, numbers}
+use Rattle.plane.proofs.Points.{PointE, pt, wholeE, _⇢E_, numbers, whole-proper, same-trans}
 use Rattle.outline.specs.Convex.{Polygon, StrictlyConvex}
 use Rattle.outline.specs.Corners.{corner, next, origin}
 use Rattle.nearest.specs.Piece.{sideOf, InPiece}
@@ -35,45 +37,7 @@ use Rattle.nearest.specs.Scaling.{scaled, enlarged, shrunk, over, numera
 use Rattle.nearest.specs.Nearest.{Nearest, Fits, SquaredDistance, Answers}
 use Rattle.nearest.proofs.AnswerLaws.{answers-iff, nearest-distance}
 
--- signs of a product by a number above 0
-factor-pos : {k z : ℤ} → pos 0 <ℤ k → pos 0 <ℤ (k *ℤ z) → pos 0 <ℤ z
-factor-pos {k} {z} = prove (k ∷ z ∷ []) (O ≺ var 0 ∷ O ≺ var 0 ⊗ var 1 ∷ []) (O ≺ var 1) (hyp 0 ⊠ hyp 1 ⊞ hyp 2) tt
-
-factor-nonneg : {k z : ℤ} → pos 0 <ℤ k → pos 0 ≤ℤ (k *ℤ z) → pos 0 ≤ℤ z
-factor-nonneg {k} {z} = prove (k ∷ z ∷ []) (O ≺ var 0 ∷ O ≼ var 0 ⊗ var 1 ∷ []) (O ≼ var 1) (hyp 0 ⊠ hyp 1 ⊞ hyp 2) tt
-
-factor-nonpos : {k z : ℤ} → pos 0 <ℤ k → (k *ℤ z) ≤ℤ pos 0 → z ≤ℤ pos 0
-factor-nonpos {k} {z} = prove (k ∷ z ∷ []) (O ≺ var 0 ∷ var 0 ⊗ var 1 ≼ O ∷ []) (var 1 ≼ O) (hyp 0 ⊠ hyp 1 ⊞ hyp 2) tt
-
-factor-zero : {k z : ℤ} → pos 0 <ℤ k → k *ℤ z ≡ pos 0 → z ≡ pos 0
-factor-zero above zero =
-    ≤ℤ-antisym (factor-nonpos above (rw zero (≤ℤ-refl (pos 0)))) (factor-nonneg above (rw zero (≤ℤ-refl (pos 0))))
-
-product-nonpos : {k z : ℤ} → pos 0 <ℤ k → z ≤ℤ pos 0 → (k *ℤ z) ≤ℤ pos 0
-product-nonpos {k} {z} = prove (k ∷ z ∷ []) (O ≺ var 0 ∷ var 1 ≼ O ∷ []) (var 0 ⊗ var 1 ≼ O) (hyp 0 ⊞ hyp 1 ⊠ hyp 2) tt
-
--- one coordinate of two points that are the same
-coordinate-over : (a b l k : ℤ) → a *ℤ pos 1 ≡ b *ℤ l → a *ℤ k ≡ b *ℤ (l *ℤ k)
-coordinate-over a b l k = prove (a ∷ b ∷ l ∷ k ∷ []) (var 0 ⊗ lit (pos 1) ≗ var 1 ⊗ var 2 ∷ [])
-    (var 0 ⊗ var 3 ≗ var 1 ⊗ (var 2 ⊗ var 3)) (hyp 0 ⊞ eqn 1 (var 3)) tt
-
-coordinate-shrunk : (a c l k : ℤ) → a *ℤ pos 1 ≡ (k *ℤ c) *ℤ l → a *ℤ pos 1 ≡ c *ℤ (l *ℤ k)
-coordinate-shrunk a c l k = prove (a ∷ c ∷ l ∷ k ∷ []) (var 0 ⊗ lit (pos 1) ≗ (var 3 ⊗ var 1) ⊗ var 2 ∷ [])
-    (var 0 ⊗ lit (pos 1) ≗ var 1 ⊗ (var 2 ⊗ var 3)) (hyp 0 ⊞ eqn 1 (lit (pos 1))) tt
-
-same-over : (k : ℕ) (v : Corner) (y : Point) → Same y (whole v) → Same (shrunk k y) (over k v)
-same-over k v y same = record {
-  same-x = coordinate-over (y .x) (v .x) (pos (y .lower)) (pos k) (same .same-x);
-  same-y = coordinate-over (y .y) (v .y) (pos (y .lower)) (pos k) (same .same-y);
-}
-
-same-shrunk : (k : ℕ) (c : Corner) (y : Point) → Same y (whole (scaled k c)) → Same (shrunk k y) (whole c)
-same-shrunk k c y same = record {
-  same-x = coordinate-shrunk (y .x) (c .x) (pos (y .lower)) (pos k) (same .same-x);
-  same-y = coordinate-shrunk (y .y) (c .y) (pos (y .lower)) (pos k) (same .same-y);
-}
-
--- the algebra of one edge, one point and one corner; the variable after the points' numbers is k
+-- as expressions: the variable after the points' numbers is k
 abbrev scaledE : Expr → VecE → VecE
 scaledE k c = record { x = k ⊗ c .x; y = k ⊗ c .y }
 
@@ -81,32 +45,54 @@ abbrev shrunkE : Expr → PointE → PointE
 shrunkE k z = record { x = z .x; y = z .y; lower = z .lower ⊗ k }
 
 module _ (k : ℕ) where
-  side-scaled : (p q : Corner) (z : Point)
-      → cross (scaled k p ⇀ scaled k q) (whole (scaled k p) ⇢ z) ≡ pos k *ℤ cross (p ⇀ q) (whole p ⇢ shrunk k z)
-  unfolding cross _⇀_ _⇢_
-  side-scaled p q z =
-      let kE = var 7 in let pE = vec 0 in let qE = vec 2 in let zE = pt 4 in
-      solve (coordinates (p ∷ q ∷ []) ++ numbers (z ∷ []) ++ (pos k ∷ []))
-      (crossE (scaledE kE pE ⇀E scaledE kE qE) (wholeE (scaledE kE pE) ⇢E zE))
-      (kE ⊗ crossE (pE ⇀E qE) (wholeE pE ⇢E shrunkE kE zE)) tt
+  -- seen from k p, z lies as z/k does from p; and the edge from k p to k q is k times that from p to q
+  from-scaled : (p : Corner) (z : Point) → whole (scaled k p) ⇢ z ≡ whole p ⇢ shrunk k z
+  unfolding _⇢_
+  from-scaled p z = λ i. record { x = coordinate (p .x) (z .x) i; y = coordinate (p .y) (z .y) i }
+    where
+      coordinate : (c x : ℤ) → x *ℤ pos 1 -ℤ (pos k *ℤ c) *ℤ pos (z .lower) ≡ x *ℤ pos 1 -ℤ c *ℤ (pos (z .lower) *ℤ pos k)
+      coordinate c x =
+          solve (c ∷ x ∷ pos (z .lower) ∷ pos k ∷ []) (var 1 ⊗ lit (pos 1) ⊖ (var 3 ⊗ var 0) ⊗ var 2)
+          (var 1 ⊗ lit (pos 1) ⊖ var 0 ⊗ (var 2 ⊗ var 3)) tt
 
-  after-scaled : (p q : Corner) (z : Point)
-      → dot (scaled k p ⇀ scaled k q) (whole (scaled k p) ⇢ z) ≡ pos k *ℤ dot (p ⇀ q) (whole p ⇢ shrunk k z)
-  unfolding dot _⇀_ _⇢_
-  after-scaled p q z =
-      let kE = var 7 in let pE = vec 0 in let qE = vec 2 in let zE = pt 4 in
-      solve (coordinates (p ∷ q ∷ []) ++ numbers (z ∷ []) ++ (pos k ∷ []))
-      (dotE (scaledE kE pE ⇀E scaledE kE qE) (wholeE (scaledE kE pE) ⇢E zE))
-      (kE ⊗ dotE (pE ⇀E qE) (wholeE pE ⇢E shrunkE kE zE)) tt
+  to-scaled : (z : Point) (q : Corner) → z ⇢ whole (scaled k q) ≡ shrunk k z ⇢ whole q
+  unfolding _⇢_
+  to-scaled z q = λ i. record { x = coordinate (q .x) (z .x) i; y = coordinate (q .y) (z .y) i }
+    where
+      coordinate : (c x : ℤ) → (pos k *ℤ c) *ℤ pos (z .lower) -ℤ x *ℤ pos 1 ≡ c *ℤ (pos (z .lower) *ℤ pos k) -ℤ x *ℤ pos 1
+      coordinate c x =
+          solve (c ∷ x ∷ pos (z .lower) ∷ pos k ∷ []) ((var 3 ⊗ var 0) ⊗ var 2 ⊖ var 1 ⊗ lit (pos 1))
+          (var 0 ⊗ (var 2 ⊗ var 3) ⊖ var 1 ⊗ lit (pos 1)) tt
 
-  before-scaled : (p q : Corner) (z : Point)
-      → dot (scaled k p ⇀ scaled k q) (z ⇢ whole (scaled k q)) ≡ pos k *ℤ dot (p ⇀ q) (shrunk k z ⇢ whole q)
-  unfolding dot _⇀_ _⇢_
-  before-scaled p q z =
-      let kE = var 7 in let pE = vec 0 in let qE = vec 2 in let zE = pt 4 in
-      solve (coordinates (p ∷ q ∷ []) ++ numbers (z ∷ []) ++ (pos k ∷ []))
-      (dotE (scaledE kE pE ⇀E scaledE kE qE) (zE ⇢E wholeE (scaledE kE qE)))
-      (kE ⊗ dotE (pE ⇀E qE) (shrunkE kE zE ⇢E wholeE qE)) tt
+  cross-scaled : (p q : Corner) (d : Vector) → cross (scaled k p ⇀ scaled k q) d ≡ pos k *ℤ cross (p ⇀ q) d
+  unfolding cross _⇀_
+  cross-scaled p q d =
+      let kE = var 6 in let pE = vec 0 in let qE = vec 2 in
+      solve (coordinates (p ∷ q ∷ []) ++ (d .x ∷ d .y ∷ pos k ∷ []))
+      (crossE (scaledE kE pE ⇀E scaledE kE qE) (vec 4)) (kE ⊗ crossE (pE ⇀E qE) (vec 4)) tt
+
+  run-scaled : (p q : Corner) (d : Vector) → dot (scaled k p ⇀ scaled k q) d ≡ pos k *ℤ dot (p ⇀ q) d
+  unfolding dot _⇀_
+  run-scaled p q d =
+      let kE = var 6 in let pE = vec 0 in let qE = vec 2 in
+      solve (coordinates (p ∷ q ∷ []) ++ (d .x ∷ d .y ∷ pos k ∷ []))
+      (dotE (scaledE kE pE ⇀E scaledE kE qE) (vec 4)) (kE ⊗ dotE (pE ⇀E qE) (vec 4)) tt
+
+  -- points that are the same are the same over k
+  same-shrunk : (y z : Point) → Same y z → Same (shrunk k y) (shrunk k z)
+  same-shrunk y z same = record { same-x = coordinate (y .x) (z .x) (same .same-x); same-y = coordinate (y .y) (z .y) (same .same-y) }
+    where
+      coordinate : (a b : ℤ) → a *ℤ pos (z .lower) ≡ b *ℤ pos (y .lower)
+          → a *ℤ (pos (z .lower) *ℤ pos k) ≡ b *ℤ (pos (y .lower) *ℤ pos k)
+      coordinate a b =
+          prove (a ∷ b ∷ pos (y .lower) ∷ pos (z .lower) ∷ pos k ∷ []) (var 0 ⊗ var 3 ≗ var 1 ⊗ var 2 ∷ [])
+          (var 0 ⊗ (var 3 ⊗ var 4) ≗ var 1 ⊗ (var 2 ⊗ var 4)) (hyp 0 ⊞ eqn 1 (var 4)) tt
+
+  scaled-shrunk : (c : Corner) → Same (shrunk k (whole (scaled k c))) (whole c)
+  scaled-shrunk c = record { same-x = coordinate (c .x); same-y = coordinate (c .y) }
+    where
+      coordinate : (x : ℤ) → (pos k *ℤ x) *ℤ pos 1 ≡ x *ℤ (pos 1 *ℤ pos k)
+      coordinate x = solve (x ∷ pos k ∷ []) ((var 1 ⊗ var 0) ⊗ lit (pos 1)) (var 0 ⊗ (lit (pos 1) ⊗ var 1)) tt
 
   corner-side-scaled : (p q v : Corner) → side (scaled k p) (scaled k q) (scaled k v) ≡ (pos k *ℤ pos k) *ℤ side p q v
   unfolding cross _⇀_
@@ -152,8 +138,8 @@ module _ (k : ℕ) (cs : List Corner) where
 
   sideOf-enlarged : (i : ℕ) (z : Point) → sideOf (enlarged k cs) i z ≡ pos k *ℤ sideOf cs i (shrunk k z)
   sideOf-enlarged i z =
-      rw (length-enlarged, corner-enlarged i, corner-enlarged (next (length cs) i))
-      (side-scaled k (corner cs i) (corner cs (next (length cs) i)) z)
+      rw (length-enlarged, corner-enlarged i, corner-enlarged (next (length cs) i), from-scaled k (corner cs i) z)
+      (cross-scaled k (corner cs i) (corner cs (next (length cs) i)) _)
 
   -- from here on k is above 0
   module _ (above : pos 0 <ℤ pos k) where
@@ -189,20 +175,21 @@ module _ (k : ℕ) (cs : List Corner) where
     piece-over v = rw one-mul at (scaled-piece (whole v))
 
     pub scaled-fits : (v : Corner) (y : Point) (f : Feature) → Fits (enlarged k cs) (whole v) y f → Fits cs (over k v) (shrunk k y) f
-    scaled-fits v y Within (inside, same) = (piece-over v .0 inside, same-over k v y same)
+    scaled-fits v y Within (inside, same) = (piece-over v .0 inside, rw (one-mul k) at (same-shrunk k y (whole v) same))
     scaled-fits v y (AtCorner i) (outside, below, same) = (
       λ inside. outside (piece-over v .1 inside),
       rw length-enlarged at below,
-      same-shrunk k (corner cs i) y (rw (corner-enlarged i) at same),
+      same-trans (*ℤ-pos (whole-proper (corner cs i)) above) (same-shrunk k y _ (rw (corner-enlarged i) at same))
+          (scaled-shrunk k (corner cs i)),
     )
     scaled-fits v y (OnEdge i) (outside, below, between) = (
       λ inside. outside (piece-over v .1 inside),
       rw length-enlarged at below,
       record {
         on-line = factor-zero above (sym (sideOf-enlarged i y) ∙ between .on-line);
-        after-start = factor-pos above (rw (← after-scaled k (corner cs i) (corner cs (next (length cs) i)) y)
+        after-start = factor-pos above (rw (← run-scaled k (corner cs i) (corner cs (next (length cs) i)) _, ← from-scaled k (corner cs i) y)
             (rw (length-enlarged, corner-enlarged i, corner-enlarged (next (length cs) i)) at (between .after-start)));
-        before-end = factor-pos above (rw (← before-scaled k (corner cs i) (corner cs (next (length cs) i)) y)
+        before-end = factor-pos above (rw (← run-scaled k (corner cs i) (corner cs (next (length cs) i)) _, ← to-scaled k y (corner cs (next (length cs) i)))
             (rw (length-enlarged, corner-enlarged i, corner-enlarged (next (length cs) i)) at (between .before-end)));
       },
     )
