@@ -56,6 +56,10 @@ int main(void) {
     for (int i = 0; i < 3; i++) {
         int n = counts[i];
         on_circle(s, n, 8000, 8000, 1);
+        if (timing_core(s, 2 * n, outside, 2 * POINTS) == 0 || timing_call(s, 2 * n, outside, 2 * POINTS) == 0) {
+            fputs("the outline is refused\n", stderr);
+            return 1;
+        }
         printf("%7d  %11.0f  %12.0f  %11.0f  %12.0f\n", n, median(timing_core, s, 2 * n, within), median(timing_core, s, 2 * n, outside),
                median(timing_call, s, 2 * n, within), median(timing_call, s, 2 * n, outside));
     }

@@ -5,10 +5,11 @@
 --     test-same      two tests with one meaning are equal
 --     test-and       two tests
 --     test-eqb, test-ltb, test-leb, test-leZ, test-eqZ    the tests of numbers
+--     ≤-≤ℤ           the order of natural numbers, as integers
 --     and-then, and-stop    two tests made one after the other, as the code's `a && b` makes them
 use Prim.Native.Nat.{ℕ, _<_, _≤_}
 use mathlib.Core.Path.{_≡_, refl, sym, ap, _∙_}
-use mathlib.Core.Logic.{_↔_, Iff·trans}
+use mathlib.Core.Logic.{_↔_, Iff·trans, Iff·symm}
 use mathlib.Core.Bool.{Bool, true, false, not, _&&_, true≢false, false≢true}
 use borrow.Author.Tests.{not-true, eqb-true, eq-eqb, ltb-true, lt-ltb, leb-true, le-leb}
 use lib.Dec.{eqb, ltb, leb}
@@ -48,6 +49,9 @@ test-leb a b = (leb-true a b, le-leb a b)
 
 pub test-leZ : (a b : ℤ) → (leZ a b ≡ true) ↔ (a ≤ℤ b)
 test-leZ a b = (leZ-true, ≤ℤ-leZ)
+
+pub ≤-≤ℤ : (a b : ℕ) → (a ≤ b) ↔ (pos a ≤ℤ pos b)
+≤-≤ℤ a b = Iff·trans (Iff·symm (test-leb a b)) (test-leZ (pos a) (pos b))
 
 pub test-eqZ : (a b : ℤ) → (eqZ a b ≡ true) ↔ (a ≡ b)
 test-eqZ (pos a) (pos b) = (λ e. ap pos (eqb-true a b e), λ e. eq-eqb a b (cc))

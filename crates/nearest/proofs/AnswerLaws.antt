@@ -31,7 +31,8 @@ use Rattle.nearest.specs.declared.Feature.{Feature}
 use Rattle.nearest.specs.declared.Feature.the-variants.{Within, Corner as AtCorner, Edge as OnEdge}
 use Rattle.nearest.specs.declared.NearestPoint.{NearestPoint}
 use Rattle.nearest.specs.Piece.{InPiece}
-use Rattle.nearest.specs.Feature.{squaredLength, along, values}
+use Rattle.nearest.specs.Feature.{values}
+use Rattle.nearest.specs.Local.{squaredLength, along}
 use Rattle.nearest.specs.Nearest.{SquaredDistance, Answers}
 use Rattle.nearest.specs.Local.{isCorner, isEdge, Tested, featureAt, feature, nearest}
 use Rattle.nearest.proofs.FirstOf.{firstOf-found}
@@ -101,7 +102,8 @@ module _ {cs : List Corner} (polygon : Polygon cs) (v : Corner) where
       only other =
           other .written
           ∙ ap (values cs v)
-          (fits-unique polygon (whole v) (a .feature) (nearest cs v .feature) (other .nearest .in-piece) (this .nearest .in-piece)
+          (fits-unique polygon (whole v) (a .feature) (nearest cs v .feature) (other .nearest .in-piece .proper)
+          (this .nearest .in-piece .proper)
           (nearest-unique polygon (whole-proper v) (other .nearest) (this .nearest)) (other .fits) (this .fits)
           ∙ values-feature cs v (feature cs v))
 

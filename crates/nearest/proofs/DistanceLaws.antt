@@ -3,10 +3,10 @@
 --     squared-distance    the gap that is answered with a feature is the squared distance of the point that is answered
 --     gap-order           of two squared distances from v one is at most the other, as fractions, exactly where its point is not farther
 --     gap-order-strict    and less exactly where its point is nearer
-use Prim.Native.Nat.{ℕ, _*_, _<_, _≤_}
+use Prim.Native.Nat.{_*_, _<_, _≤_}
 use native.Mathlib.Nat.{lt-of-not-le, not-le-of-lt}
 use mathlib.Core.Path.{_≡_}
-use mathlib.Core.Logic.{_↔_, Iff·symm, Iff·trans}
+use mathlib.Core.Logic.{_↔_, Iff·trans}
 use mathlib.Core.List.{List, [], _∷_}
 use lib.Dec.{T}
 use lib.IntN.{ℤ, pos, natAbs, _+ℤ_, _-ℤ_, _*ℤ_}
@@ -16,7 +16,7 @@ use Rattle.integers.specs.declared.fraction.Fraction.{Fraction}
 use Rattle.integers.proofs.Polynomial.{var, lit, _⊕_, _⊗_, ⊝_, solve}
 use Rattle.integers.proofs.Certificate.{Claim, _≺_, _≼_, _≗_, Holds, Cert, hyp, sq, eqn, _⊞_, _⊠_, proves, prove}
 use Rattle.integers.proofs.Order.{≰ℤ-<ℤ, natAbs-nonneg, square-nonneg}
-use Rattle.integers.proofs.Reflect.{test-leb, test-leZ}
+use Rattle.integers.proofs.Reflect.{≤-≤ℤ}
 use Rattle.plane.specs.declared.Corner.{Corner}
 use Rattle.plane.specs.declared.Point.{Point}
 use Rattle.plane.specs.declared.Vector.{Vector}
@@ -84,10 +84,12 @@ module _ {cs : List Corner} (polygon : Polygon cs) (v : Corner) where
       (natAbs-nonneg (square-nonneg (cross (edge cs i) (corner cs i ⇀ v)))) (natAbs-nonneg (dot-self (edge cs i)))
 
   pub squared-distance : (f : Feature) → Known cs f → SquaredDistance (whole v) (values cs v f .point) (values cs v f .gap)
-  squared-distance f known = record { proper = (whole-proper v, lowers f known .1); lower-positive = lowers f known .0; equal = equal f }
-
-≤-≤ℤ : (a b : ℕ) → (a ≤ b) ↔ (pos a ≤ℤ pos b)
-≤-≤ℤ a b = Iff·trans (Iff·symm (test-leb a b)) (test-leZ (pos a) (pos b))
+  squared-distance f known = record {
+    from-proper = whole-proper v;
+    to-proper = lowers f known .1;
+    lower-positive = lowers f known .0;
+    equal = equal f;
+  }
 
 -- With a/k and b/l the fractions, d and e the squared distances times the squares of the lower numbers r and t, s and t: the cross
 -- products a l and b k, times (r s t)², are the two sides of `NotFarther`, times k l.
@@ -102,7 +104,7 @@ module _ {v y z : Point} {g h : Fraction} (at-y : SquaredDistance v y g) (at-z :
       ∷ O ≺ k ∷ O ≺ l ∷ O ≺ r ∷ O ≺ s ∷ O ≺ t ∷ c ∷ [] in
       let from : (c goal : Claim) (w : Cert) → T (proves (known c) goal w) → Holds numbers c → Holds numbers goal = λ c goal w sound.
       prove numbers (known c) goal w sound (at-y .equal) (at-z .equal)
-      (at-y .lower-positive) (at-z .lower-positive) (at-y .proper .1) (at-z .proper .1) (at-y .proper .0) in
+      (at-y .lower-positive) (at-z .lower-positive) (at-y .to-proper) (at-z .to-proper) (at-y .from-proper) in
       let at-most = a ⊗ l ≼ b ⊗ k in let not-farther = d ⊗ (s ⊗ s) ≼ e ⊗ (r ⊗ r) in
       Iff·trans (≤-≤ℤ (g .upper * h .lower) (h .upper * g .lower)) (
         from at-most not-farther

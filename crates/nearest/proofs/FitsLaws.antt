@@ -25,7 +25,7 @@ use Rattle.outline.specs.Corners.{corner, next}
 use Rattle.outline.proofs.CornersLaws.{next-below, next-other, next-next-other}
 use Rattle.nearest.specs.declared.Feature.{Feature}
 use Rattle.nearest.specs.declared.Feature.the-variants.{Within, Corner as AtCorner, Edge as OnEdge}
-use Rattle.nearest.specs.Piece.{edge, sideOf, InPiece}
+use Rattle.nearest.specs.Piece.{edge, sideOf}
 use Rattle.nearest.specs.Nearest.{Fits, Between}
 use Rattle.nearest.proofs.Support.{corner-in-piece}
 
@@ -131,21 +131,21 @@ module _ {cs : List Corner} (polygon : Polygon cs) where
       not-ahead (edge cs i) (corner cs i) proper same here (subst (λ (k : ℕ). Between cs k z) same-number between .after-start)
 
   -- Two features of one point are the same.
-  pub fits-unique : (v : Point) {y z : Point} (f g : Feature) → InPiece cs y → InPiece cs z → Same y z
+  pub fits-unique : (v : Point) {y z : Point} (f g : Feature) → Proper y → Proper z → Same y z
       → Fits cs v y f → Fits cs v z g → f ≡ g
-  fits-unique v Within Within iny inz same fits also = refl
-  fits-unique v Within (AtCorner j) iny inz same fits also = absurd (also .0 (fits .0))
-  fits-unique v Within (OnEdge j) iny inz same fits also = absurd (also .0 (fits .0))
-  fits-unique v (AtCorner i) Within iny inz same fits also = absurd (fits .0 (also .0))
-  fits-unique v (OnEdge i) Within iny inz same fits also = absurd (fits .0 (also .0))
-  fits-unique v (AtCorner i) (AtCorner j) iny inz same (_, below, here) (_, j-below, there) =
+  fits-unique v Within Within y-proper z-proper same fits also = refl
+  fits-unique v Within (AtCorner j) y-proper z-proper same fits also = absurd (also .0 (fits .0))
+  fits-unique v Within (OnEdge j) y-proper z-proper same fits also = absurd (also .0 (fits .0))
+  fits-unique v (AtCorner i) Within y-proper z-proper same fits also = absurd (fits .0 (also .0))
+  fits-unique v (OnEdge i) Within y-proper z-proper same fits also = absurd (fits .0 (also .0))
+  fits-unique v (AtCorner i) (AtCorner j) y-proper z-proper same (_, below, here) (_, j-below, there) =
       ap AtCorner (each-other (length cs) i j (polygon .at-least)
-      (corner-line i below j (inz .proper) j-below there (through (edge cs i) (corner cs i) (iny .proper) same here))
-      (corner-line j j-below i (iny .proper) below here (through (edge cs j) (corner cs j) (inz .proper) (same-sym same) there)))
-  fits-unique v (AtCorner i) (OnEdge j) iny inz same (_, below, here) (_, j-below, between) =
-      absurd (corner-or-edge i j (iny .proper) same below here j-below between)
-  fits-unique v (OnEdge i) (AtCorner j) iny inz same (_, below, between) (_, j-below, there) =
-      absurd (corner-or-edge j i (inz .proper) (same-sym same) j-below there below between)
-  fits-unique v (OnEdge i) (OnEdge j) iny inz same (_, below, between) (_, j-below, also) =
+      (corner-line i below j z-proper j-below there (through (edge cs i) (corner cs i) y-proper same here))
+      (corner-line j j-below i y-proper below here (through (edge cs j) (corner cs j) z-proper (same-sym same) there)))
+  fits-unique v (AtCorner i) (OnEdge j) y-proper z-proper same (_, below, here) (_, j-below, between) =
+      absurd (corner-or-edge i j y-proper same below here j-below between)
+  fits-unique v (OnEdge i) (AtCorner j) y-proper z-proper same (_, below, between) (_, j-below, there) =
+      absurd (corner-or-edge j i z-proper (same-sym same) j-below there below between)
+  fits-unique v (OnEdge i) (OnEdge j) y-proper z-proper same (_, below, between) (_, j-below, also) =
       ap OnEdge (edge-line j j-below i below between
-      (same-line (edge cs j) (whole (corner cs j)) (same-sym same) (inz .proper) (also .on-line)))
+      (same-line (edge cs j) (whole (corner cs j)) (same-sym same) z-proper (also .on-line)))

@@ -2,7 +2,6 @@
 pub mod Support
 pub mod NearestLaws
 pub mod PieceLaws
-pub mod Foot
 pub mod Walk
 pub mod LocalLaws
 pub mod FitsLaws

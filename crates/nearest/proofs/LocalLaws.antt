@@ -6,7 +6,7 @@
 --     corner-visible    a corner whose test holds is an end of an edge that v is strictly right of
 use Prim.Native.Nat.{ℕ, _<_}
 use mathlib.Core.Path.{_≡_, refl, subst}
-use mathlib.Core.Logic.{_↔_, _⊎_, inl, inr}
+use mathlib.Core.Logic.{_⊎_, inl, inr}
 use mathlib.Core.Bool.{Bool, true, false}
 use mathlib.Core.List.{List}
 use native.Mathlib.Omega.{arith}
@@ -26,13 +26,14 @@ use Rattle.outline.specs.Convex.{Polygon}
 use Rattle.outline.specs.Corners.{corner, next, previous}
 use Rattle.outline.proofs.CornersLaws.{next-below, previous-below, next-previous, previous-next}
 use Rattle.nearest.specs.declared.Feature.the-variants.{Edge as OnEdge}
-use Rattle.nearest.specs.Piece.{InPiece, Outside, isOutside}
-use Rattle.nearest.specs.Feature.{squaredLength, along, values}
+use Rattle.nearest.specs.Piece.{InPiece, Outside}
+use Rattle.nearest.specs.Feature.{values}
+use Rattle.nearest.specs.Local.{squaredLength, along}
 use Rattle.nearest.specs.Nearest.{Nearest, Between}
 use Rattle.nearest.specs.Local.{isRight, isCorner, isEdge}
-use Rattle.nearest.proofs.PieceLaws.{whole-in-piece, inside-test}
+use Rattle.nearest.proofs.PieceLaws.{whole-in-piece}
 use Rattle.nearest.proofs.Support.{not-right, corner-in-piece, turns-left, corner-cone}
-use Rattle.nearest.proofs.Foot.{foot-left, foot-on-line, foot-after, foot-before, foot-bound}
+use Rattle.plane.proofs.Foot.{foot-left, foot-on-line, foot-after, foot-before, foot-bound}
 use Rattle.nearest.proofs.Walk.{corner-test, edge-test, PastEnd, PastStart, visible-past, forth, back}
 
 module _ {cs : List Corner} (polygon : Polygon cs) (v : Corner) where
@@ -72,7 +73,8 @@ module _ {cs : List Corner} (polygon : Polygon cs) (v : Corner) where
           in-piece = record {
             proper = long-n;
             right-of-none = λ j known. foot-left n t p q (corner cs j) (corner cs (next (length cs) j)) after before-n
-                (not-right polygon j i known below) (not-right polygon j (next (length cs) i) known (next-below (length cs) i (omega arith)));
+                (not-right polygon j i known below)
+                (not-right polygon j (next (length cs) i) known (next-below (length cs) i (omega arith)));
           };
           at-most-0 = λ j known. foot-bound n t p q v (corner cs j) is-n refl long-n visible (not-right polygon i j below known);
         },

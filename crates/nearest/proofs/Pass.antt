@@ -1,8 +1,9 @@
 -- The pass over the edges of an outline that `nearest` makes. It stops at the first edge that has the nearest point.
---     Means, part-means    what the part of an edge that `nearestPart` finds says of the tests
+--     NoPart, Means, part-means    what the part of an edge that `nearestPart` finds says of the tests
 --     none-found           if no edge has a part that is nearest, v is in the piece
 --     Passing              the invariant: no edge before i has one
 --     pass-start, pass-none     at the start; after the last edge the answer is Within
+--     before-below, after-below    the corners before and after are corners
 --     Turn                 what a turn of the loop reads: the ends of edge i and the corners before and after them
 --     turn-read            they are read from the places of the outline's value
 --     turn-range           they are in range
@@ -90,7 +91,8 @@ pass-start cs v = record { none = λ k below. absurd (omega arith) }
 pub pass-none : {cs : List Corner} {v : Corner} {i : ℕ} → Accepted cs → Passing cs v i → length cs ≤ i
     → withinValues v ≡ nearest cs v
 pass-none {cs} {v} ok pass past =
-    ap (values cs v) (sym (none-found cs v (accepted-polygon ok) (λ k below. pass .none k (omega arith)) (feature cs v) (feature-tested cs v)))
+    let none = none-found cs v (accepted-polygon ok) (λ k below. pass .none k (omega arith)) in
+    ap (values cs v) (sym (none (feature cs v) (feature-tested cs v)))
 
 pub before-below : {n i b : ℕ} → b ≡ previous n i → i < n → b < n
 before-below {n} {i} is below = rw is (previous-below n i below)

@@ -13,18 +13,18 @@ use mathlib.Core.Logic.{_↔_}
 use mathlib.Core.List.{List, [], _∷_, _++_}
 use lib.IntN.{ℤ, pos, _-ℤ_, _*ℤ_, *ℤ-zero, *ℤ-comm}
 use lib.ListN.{length, getD, length-map, List·getD-map}
-use lib.Signed.{_≤ℤ_, _<ℤ_, ≤ℤ-refl}
+use lib.Signed.{_≤ℤ_, _<ℤ_}
 use Rattle.integers.proofs.Polynomial.{Expr, var, lit, _⊖_, _⊗_, solve}
 use Rattle.integers.proofs.Order.{*ℤ-pos, *ℤ-nonneg, <ℤ-≤ℤ}
 use Rattle.integers.proofs.Signs.{factor-pos, factor-nonneg, factor-zero, product-nonpos}
-use Rattle.integers.proofs.Certificate.{_≺_, _≼_, _≗_, hyp, eqn, _⊞_, _⊠_, prove}
+use Rattle.integers.proofs.Certificate.{_≗_, hyp, eqn, _⊞_, prove}
 use Rattle.integers.specs.declared.fraction.Fraction.{Fraction}
 use Rattle.plane.specs.declared.Corner.{Corner}
 use Rattle.plane.specs.declared.Point.{Point}
 use Rattle.plane.specs.declared.Vector.{Vector}
 use Rattle.plane.specs.Point.{Proper, whole, _⇢_, Same}
 use Rattle.plane.specs.Vector.{_⇀_, cross, dot, side, coordinates}
-use Rattle.plane.proofs.Algebra.{VecE, O, vec, crossE, dotE, _⇀E_, sideE}
+use Rattle.plane.proofs.Algebra.{VecE, vec, crossE, dotE, _⇀E_, sideE}
 use Rattle.plane.proofs.Points.{PointE, pt, wholeE, _⇢E_, numbers, whole-proper, same-trans}
 use Rattle.outline.specs.Convex.{Polygon, StrictlyConvex}
 use Rattle.outline.specs.Corners.{corner, next, origin}
@@ -120,7 +120,8 @@ module _ (k : ℕ) where
       let from = yE ⇢E wholeE vE in let to = shrunkE kE yE ⇢E record { x = vE .x; y = vE .y; lower = kE } in
       let d = yE .lower ⊗ lit (pos 1) in let dk = (yE .lower ⊗ kE) ⊗ kE in
       record {
-        proper = (above, *ℤ-pos (is .proper .1) above);
+        from-proper = above;
+        to-proper = *ℤ-pos (is .to-proper) above;
         lower-positive = *ℤ-pos (is .lower-positive) (*ℤ-pos above above);
         equal = prove (coordinates (v ∷ []) ++ numbers (y ∷ []) ++ (pos (g .upper) ∷ pos (g .lower) ∷ pos k ∷ []))
             ((upper ⊗ d) ⊗ d ≗ dotE from from ⊗ lower ∷ []) ((upper ⊗ dk) ⊗ dk ≗ dotE to to ⊗ (lower ⊗ (kE ⊗ kE)))
@@ -182,14 +183,14 @@ module _ (k : ℕ) (cs : List Corner) where
       same-trans (*ℤ-pos (whole-proper (corner cs i)) above) (same-shrunk k y _ (rw (corner-enlarged i) at same))
           (scaled-shrunk k (corner cs i)),
     )
-    scaled-fits v y (OnEdge i) (outside, below, between) = (
+    scaled-fits v y (OnEdge i) (outside, below, between) = let p = corner cs i in let q = corner cs (next (length cs) i) in (
       λ inside. outside (piece-over v .1 inside),
       rw length-enlarged at below,
       record {
         on-line = factor-zero above (sym (sideOf-enlarged i y) ∙ between .on-line);
-        after-start = factor-pos above (rw (← run-scaled k (corner cs i) (corner cs (next (length cs) i)) _, ← from-scaled k (corner cs i) y)
+        after-start = factor-pos above (rw (← run-scaled k p q _, ← from-scaled k p y)
             (rw (length-enlarged, corner-enlarged i, corner-enlarged (next (length cs) i)) at (between .after-start)));
-        before-end = factor-pos above (rw (← run-scaled k (corner cs i) (corner cs (next (length cs) i)) _, ← to-scaled k y (corner cs (next (length cs) i)))
+        before-end = factor-pos above (rw (← run-scaled k p q _, ← to-scaled k y q)
             (rw (length-enlarged, corner-enlarged i, corner-enlarged (next (length cs) i)) at (between .before-end)));
       },
     )

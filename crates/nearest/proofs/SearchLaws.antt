@@ -17,12 +17,10 @@ use mathlib.Core.Bool.{Bool, true, false, cond}
 use mathlib.Core.List.{List, [], _∷_, _++_, List·Memᴰ, List·Memᴰ·head, List·Memᴰ·tail, List·Memᴰ·cases-cons, List·Memᴰ·not-nil}
 use mathlib.Core.List.{List·Memᴰ·eq-of-singleton, List·Memᴰ·append-cases, Memᴰ·append-left, Memᴰ·append-right}
 use borrow.Author.Tests.{lt-ltb, le-ltb}
-use lib.IntN.{pos, _*ℤ_, ℤ-discrete}
 use lib.ListN.{length}
 use Rattle.plane.specs.declared.Corner.{Corner}
-use Rattle.plane.specs.declared.Point.{Point}
-use Rattle.plane.specs.Point.{whole, Same}
-use Rattle.plane.proofs.Points.{whole-proper, same-refl}
+use Rattle.plane.specs.Point.{whole}
+use Rattle.plane.proofs.Points.{whole-proper, same-refl, same?}
 use Rattle.outline.specs.Convex.{Polygon}
 use Rattle.outline.specs.Corners.{corner}
 use Rattle.nearest.specs.declared.Feature.{Feature}
@@ -137,14 +135,6 @@ module _ (cs : List Corner) (v : Corner) where
   is-tried (OnEdge i) (below, holds) =
       Memᴰ·append-right (triedCorners cs v (length cs)) (edges-tried _ .1 (i, below, rw holds (List·Memᴰ·head refl)))
 
-same? : (y z : Point) → Dec (Same y z)
-same? y z = go (ℤ-discrete _ _) (ℤ-discrete _ _)
-  where
-    go : Dec (y .x *ℤ pos (z .lower) ≡ z .x *ℤ pos (y .lower)) → Dec (y .y *ℤ pos (z .lower) ≡ z .y *ℤ pos (y .lower)) → Dec (Same y z)
-    go (yes x) (yes y) = yes (record { same-x = x; same-y = y })
-    go (yes x) (no other) = no (λ same. other (same .same-y))
-    go (no other) y = no (λ same. other (same .same-x))
-
 record Candidate (cs : List Corner) (v : Corner) (g : Feature) : Type 0 where
   in-piece : InPiece cs (values cs v g .point)
   fits : Fits cs (whole v) (values cs v g .point) g
@@ -168,7 +158,8 @@ module _ {cs : List Corner} (polygon : Polygon cs) (v : Corner) where
   no-better : (f g : Feature) → Tested cs v f → Candidate cs v f → Candidate cs v g → NoBetter (values cs v f) (values cs v g)
   no-better f g holds c d =
       elim (same? (values cs v f .point) (values cs v g .point)) [
-        | yes same ↦ inl (ap (values cs v) (sym (fits-unique polygon (whole v) f g (c .in-piece) (d .in-piece) same (c .fits) (d .fits))))
+        | yes same ↦ inl (ap (values cs v)
+            (sym (fits-unique polygon (whole v) f g (c .in-piece .proper) (d .in-piece .proper) same (c .fits) (d .fits))))
         | no other ↦ inr (gap-order-strict (c .measured) (d .measured) .1
             (others-farther polygon (whole-proper v) (tested-answers polygon v f holds .nearest) (d .in-piece) other))
       ]

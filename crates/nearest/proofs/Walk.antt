@@ -7,14 +7,12 @@
 --                              too, v is past the end of that edge, and nearer to that end than to the corner
 --     back                     the mirror, from the start of the edge out of a corner to that of the edge into it
 --     square-at-start, square-at-end    where the foot of v on an edge is an end, the test of that corner holds
-use Prim.Native.Nat.{ℕ, zero, suc, _<_}
+use Prim.Native.Nat.{_<_}
 use mathlib.Core.Path.{_≡_}
 use mathlib.Core.Logic.{_↔_, _≢_, _⊎_, inl, inr, ⊎-elim}
 use mathlib.Core.Bool.{true, false}
 use mathlib.Core.List.{[], _∷_}
-use native.Mathlib.Omega.{arith}
-use lib.Dec.{ltb→lt}
-use lib.IntN.{ℤ, pos, negsuc, natAbs}
+use lib.IntN.{pos}
 use lib.Signed.{_≤ℤ_, _<ℤ_, ≤ℤ-refl, <ℤ-irrefl, clashℤ}
 use Rattle.integers.proofs.Order.{ltZ-true, <ℤ-ltZ, ≤ℤ-or-<ℤ, ≰ℤ-<ℤ}
 use Rattle.integers.proofs.Reflect.{test-false, test-not, test-and, test-leZ}
@@ -26,7 +24,7 @@ use Rattle.plane.specs.Vector.{_⇀_, cross, dot, side, coordinates}
 use Rattle.plane.proofs.Algebra.{O, vec, crossE, dotE, sideE, _⇀E_, side-end, side-start, side-stop, dot-back}
 use Rattle.plane.proofs.Cone.{turn-next, turn-previous}
 use Rattle.plane.proofs.Tests.{same-true}
-use Rattle.nearest.specs.Feature.{squaredLength, along}
+use Rattle.nearest.specs.Local.{squaredLength, along}
 use Rattle.nearest.specs.Local.{cornerIsNearest, edgeIsNearest}
 
 abbrev pub Behind : Corner → Corner → Corner → Type 0

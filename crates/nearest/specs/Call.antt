@@ -1,5 +1,6 @@
 -- Document 01: the call for the nearest point, which takes a point and an outline.
 --     pointCheck     1 to 6 for the outline, then 7
+--     answerFor      by what the checks find
 --     nearestAnswer  what the call answers; `call-answers` and `call-refuses` in `proofs/CallLaws.antt` say it in document 01's words
 use mathlib.Core.Bool.{not}
 use mathlib.Core.List.{List}

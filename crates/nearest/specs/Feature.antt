@@ -1,11 +1,10 @@
 -- Document 01: the gap and the nearest point for each kind of feature, from a point v with whole coordinates. Nothing is reduced.
 --     withinValues, cornerValues, edgeValues    what is answered for each kind, from the corners that it speaks of
 --     edgeGap, footOn                           the two parts of the last, from the edge's start and differences
---     squaredLength, along                      of an edge; how far along it the foot of a point lies
 --     values                                    the same for a feature of an outline
 use Prim.Native.Nat.{ℕ}
 use mathlib.Core.List.{List}
-use lib.IntN.{ℤ, natAbs, _+ℤ_, _*ℤ_}
+use lib.IntN.{natAbs, _+ℤ_, _*ℤ_}
 use lib.ListN.{length}
 use Rattle.integers.specs.declared.fraction.Fraction.{Fraction}
 use Rattle.plane.specs.declared.Corner.{Corner}
@@ -46,14 +45,6 @@ footOn start run to = record {
 -- edge i, from p to q; the gap and the point have the same lower number
 abbrev pub edgeValues : Corner → ℕ → Corner → Corner → NearestPoint
 edgeValues v i p q = record { feature = OnEdge i; gap = edgeGap (p ⇀ q) (p ⇀ v); point = footOn p (p ⇀ q) (p ⇀ v) }
-
--- the squared length of the edge from p to q
-abbrev pub squaredLength : Corner → Corner → ℤ
-squaredLength p q = dot (p ⇀ q) (p ⇀ q)
-
--- how far along the edge the foot of v lies: 0 at p, the squared length at q
-abbrev pub along : Corner → Corner → Corner → ℤ
-along p q v = dot (p ⇀ v) (p ⇀ q)
 
 abbrev pub values : List Corner → Corner → Feature → NearestPoint
 values cs v Within = withinValues v

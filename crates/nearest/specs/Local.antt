@@ -1,7 +1,9 @@
 -- The nearest feature of an outline to a point, found by tests that look at a corner or an edge and the corners next to it alone.
+--     squaredLength, along              of the edge from p to q; how far along it the foot of a point lies
 --     cornerIsNearest, edgeIsNearest    the tests, of the corners themselves
 --     isCorner, isEdge                  the tests at corner i and at edge i of an outline
 --     Tested                            the test of a feature holds; of Within: no test holds
+--     featureAt, firstOf                what they find at corner i; what is found first at 0, 1, .. below n (Within: nothing)
 --     feature                           the feature that they find; Within where they find none
 --     nearest                           that feature with its gap and its point
 -- `proofs/AnswerLaws.antt` shows that `nearest` is the one answer that document 01's definition (`Nearest.antt`) admits.
@@ -12,7 +14,7 @@ use Prim.Native.Nat.{ℕ, zero, suc, _<_}
 use mathlib.Core.Path.{_≡_}
 use mathlib.Core.Bool.{Bool, true, false, cond, not, _&&_}
 use mathlib.Core.List.{List}
-use lib.IntN.{pos}
+use lib.IntN.{ℤ, pos}
 use lib.ListN.{length}
 use lib.Signed.{leZ, ltZ}
 use Rattle.plane.specs.declared.Corner.{Corner}
@@ -23,20 +25,30 @@ use Rattle.nearest.specs.declared.Feature.the-variants.{Within, Corner a
 use Rattle.nearest.specs.declared.NearestPoint.{NearestPoint}
 use Rattle.nearest.specs.declared.local.Part.{Part}
 use Rattle.nearest.specs.declared.local.Part.the-variants.{None, Start, Between, End}
-use Rattle.nearest.specs.Feature.{squaredLength, along, values}
+use Rattle.nearest.specs.Feature.{values}
+
+-- the squared length of the edge from p to q
+abbrev pub squaredLength : Corner → Corner → ℤ
+squaredLength p q = dot (p ⇀ q) (p ⇀ q)
+
+-- how far along the edge the foot of v lies: 0 at p, the squared length at q
+abbrev pub along : Corner → Corner → Corner → ℤ
+along p q v = dot (p ⇀ v) (p ⇀ q)
 
 -- v is not the corner c, and (v - c)·(d - c) is at most 0 for the corners d before and after it
 abbrev pub cornerIsNearest : Corner → Corner → Corner → Corner → Bool
 cornerIsNearest v before c after =
     not (same c v) && leZ (dot (c ⇀ v) (c ⇀ before)) (pos 0) && leZ (dot (c ⇀ v) (c ⇀ after)) (pos 0)
 
--- v is strictly right of the edge from p to q, and its foot lies strictly between them
+-- v is strictly right of the edge from p to q
 abbrev pub isRight : Corner → Corner → Corner → Bool
 isRight v p q = ltZ (side p q v) (pos 0)
 
+-- its foot lies strictly between them
 abbrev pub footIsBetween : Corner → Corner → Corner → Bool
 footIsBetween v p q = ltZ (pos 0) (along p q v) && ltZ (along p q v) (squaredLength p q)
 
+-- both
 abbrev pub edgeIsNearest : Corner → Corner → Corner → Bool
 edgeIsNearest v p q = isRight v p q && footIsBetween v p q
 

@@ -41,7 +41,8 @@ Fits cs v y (OnEdge i) = Outside cs v × (i < length cs) × Between cs i y
 
 -- |v - y|² is dot (y ⇢ v) (y ⇢ v) over the square of both lower numbers; the equation is multiplied out
 pub record SquaredDistance (v y : Point) (g : Fraction) : Type 0 where
-  pub proper : Proper v × Proper y
+  pub from-proper : Proper v
+  pub to-proper : Proper y
   pub lower-positive : pos 0 <ℤ pos (g .lower)
   pub equal : pos (g .upper) *ℤ (pos (y .lower) *ℤ pos (v .lower)) *ℤ (pos (y .lower) *ℤ pos (v .lower))
       ≡ dot (y ⇢ v) (y ⇢ v) *ℤ pos (g .lower)

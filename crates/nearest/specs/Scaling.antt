@@ -1,6 +1,7 @@
 -- Points at V/D: times D, the outline is a larger one and V a point with whole coordinates.
 --     scaled, enlarged    a corner, a list of corners, times k
 --     shrunk, over        a point over k, a corner over k
+--     numerator           V, of a point V/D
 --     nearestAt           the nearest feature, gap and point for V/D: those for V in the larger list, over D
 use Prim.Native.Nat.{ℕ, _*_}
 use mathlib.Core.List.{List, map}

@@ -1,8 +1,9 @@
 -- Document 01: what the trial does for one corner v, an exhaustive search. It is fed v and the corners of the other piece, `cs`, and
 -- nothing else.
---     tryCorner, tryEdge    a candidate: a feature with its gap and its point
+--     within, tryCorner, tryEdge    a candidate: a feature with its gap and its point
+--     isTried               whether an edge is tried
 --     tried                 all that is tried for a v that is not in the piece
---     leastOf               the candidate with the least gap
+--     isLess, leastOf       the order of gaps; the candidate with the least gap
 --     search                v's feature, gap and point
 -- `proofs/SearchLaws.antt` shows that it finds the nearest point, in whatever order the candidates are tried.
 use Prim.Native.Nat.{ℕ, zero, suc, _*_}

@@ -56,7 +56,7 @@ fn corner_is_nearest(v: Corner, before: Corner, c: Corner, after: Corner) -> boo
 }
 
 // The part of the edge from p to q, with the corners before and after it, that is the nearest feature. It is none if v is not strictly
-// right of the edge: a side number decides that, and for most edges nothing else is computed.
+// right of the edge: the sign of a side number decides that, and for most edges it is the only test.
 pub fn nearest_part(v: Corner, before: Corner, p: Corner, q: Corner, after: Corner) -> Part
     requires { ⌜ InRange v ⌝ }
     requires { ⌜ InRange before ⌝ }

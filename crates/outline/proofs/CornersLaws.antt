@@ -3,7 +3,7 @@
 --     next-below, previous-below     it is a corner of the outline, and so is the one before
 --     next-other, next-next-other    it is another corner, and the one after it is a third
 --     next-previous, previous-next   after the corner before i comes i, and before the one after it
---     previous-other, next-not-previous    the corner before is another corner, and not the one after
+--     next-not-previous              the corner before is not the one after
 --     length-corners                 two numbers to a corner
 --     corners-fit                    all corners lie in the list
 --     corner-at                      document 01: corner i is numbers 2 i and 2 i + 1
@@ -61,10 +61,6 @@ next-previous n (suc i) below = next-suc n i below
 
 pub previous-next : (n i : ℕ) → i < n → previous n (next n i) ≡ i
 previous-next n i below = ⊎-elim (λ more. rw (more .1)) (λ last. rw (last .1) (omega arith)) (next-cases n i)
-
-pub previous-other : (n i : ℕ) → 2 ≤ n → previous n i ≢ i
-previous-other n zero two = omega arith
-previous-other n (suc i) two = omega arith
 
 pub next-not-previous : (n i : ℕ) → 3 ≤ n → i < n → next n i ≢ previous n i
 next-not-previous n i three below = rw (next-previous n i below) at (next-next-other n (previous n i) three)

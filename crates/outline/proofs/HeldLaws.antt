@@ -39,13 +39,13 @@ module _ (cs : List Corner) where
       split : i ≡ length cs + (i - length cs)
       split = omega arith
 
-  pub cornersOf-held : length cs ≤ most → cornersOf (held cs) ≡ cs
+  pub cornersOf-held : cornersOf (held cs) ≡ cs
   unfolding held
-  cornersOf-held fits = take-append-seam cs (replicate (most - length cs) origin)
+  cornersOf-held = take-append-seam cs (replicate (most - length cs) origin)
 
   pub held-outline : Accepted cs → IsOutline (held cs)
   unfolding held
-  held-outline ok = record { fits = ok .at-most; accepted = rw (cornersOf-held (ok .at-most)) ok }
+  held-outline ok = record { fits = ok .at-most; accepted = rw cornersOf-held ok }
 
 module _ (o : Outline) where
   pub length-cornersOf : o .count ≤ length (o .corners) → length (cornersOf o) ≡ o .count

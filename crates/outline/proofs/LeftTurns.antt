@@ -1,4 +1,5 @@
 -- Strict convexity without edges: any three corners, in number order, turn left. So a part of a strictly convex list is one.
+--     Left            a corner is strictly left of the line from one corner to another
 --     LeftTurns       any three corners, in number order, turn left
 --     left-turn, left-turn-back    of three corners taken round
 --     convex-turns    so it is in a strictly convex list

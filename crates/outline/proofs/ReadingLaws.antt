@@ -43,7 +43,7 @@ module _ (whose : RefusedSide) (s : List ℤ) where
     reading-outline = rw reading-holds (held-outline (corners s) (reading-taken .0 taken .1))
 
     pub reading-cornersOf : cornersOf (reading whose s .outline) ≡ corners s
-    reading-cornersOf = ap cornersOf reading-holds ∙ cornersOf-held (corners s) (reading-taken .0 taken .1 .at-most)
+    reading-cornersOf = ap cornersOf reading-holds ∙ cornersOf-held (corners s)
 
     pub reading-count : reading whose s .outline .count ≡ length s / 2
     unfolding held

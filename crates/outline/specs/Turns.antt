@@ -2,6 +2,7 @@
 --     all          a test passes at 0, 1, .. below n
 --     isLeft       v is strictly left of the line that starts at `from` and has the differences `run`
 --     keepsLeft    the tests of a corner: against edge 0, the line from corner 0 to the corner before, and the edge to that corner
+--     keepsLeftAt  the tests of corner i + 2
 --     isConvex     every corner after the first two passes them
 -- For the code alone: `proofs/TurnsLaws.antt` shows that corners pass exactly where they are `StrictlyConvex`.
 use Prim.Native.Nat.{ℕ, zero, suc, _-_}

@@ -8,13 +8,13 @@
 --     cross-local, dot-local                the same as a caller of `side`, `dot` or `squared_length` has it in a local
 -- Every hypothesis shows its numbers, so that `search` finds it in what a need is handed.
 use mathlib.Core.Path.{_≡_}
-use Prim.Native.Nat.{ℕ, _+_, _*_, _^_}
+use Prim.Native.Nat.{_+_, _*_, _^_}
 use lib.IntN.{ℤ, _+ℤ_, _-ℤ_, _*ℤ_}
 use mir.Syntax.{w32, w64}
 use mir.Val.{SFits}
 use Rattle.integers.specs.Size.{AtMost}
 use Rattle.integers.proofs.Machine.{i32, i64, Exact, value, field, stored, plus, minus, times, fits}
-use Rattle.plane.specs.Range.{Span, reach}
+use Rattle.plane.specs.Range.{Span, reach, productLimit}
 use Rattle.plane.specs.Vector.{cross, dot}
 use Rattle.plane.specs.declared.Vector.{Vector}
 
@@ -52,15 +52,11 @@ product-fits h k = fits (product-is h k) tt
 product : {y z : ℤ} → AtMost reach y → AtMost reach z → Exact (reach * reach) (y *ℤ z) (product64 y z)
 product h k = stored w64 (product-is h k) tt
 
--- the bound of a sum and of a difference of two products
-abbrev pub most : ℕ
-most = reach * reach + reach * reach
-
 module _ {u v y z : ℤ} (hu : AtMost reach u) (hv : AtMost reach v) (hy : AtMost reach y) (hz : AtMost reach z) where
-  minus-is : Exact most ((u *ℤ v) -ℤ (y *ℤ z)) (product64 u v -ℤ product64 y z)
+  minus-is : Exact productLimit ((u *ℤ v) -ℤ (y *ℤ z)) (product64 u v -ℤ product64 y z)
   minus-is = minus (product hu hv) (product hy hz)
 
-  plus-is : Exact most ((u *ℤ v) +ℤ (y *ℤ z)) (product64 u v +ℤ product64 y z)
+  plus-is : Exact productLimit ((u *ℤ v) +ℤ (y *ℤ z)) (product64 u v +ℤ product64 y z)
   plus-is = plus (product hu hv) (product hy hz)
 
   pub minus-fits : SFits w64 (product64 u v -ℤ product64 y z)
@@ -70,17 +66,17 @@ module _ {u v y z : ℤ} (hu : AtMost reach u) (hv : AtMost reach v) (hy : AtMos
   plus-fits = fits plus-is tt
 
 module _ {a b : Vector} (h : Span reach a) (k : Span reach b) where
-  pub cross-is : Exact most (cross a b) (product64 (a .x) (b .y) -ℤ product64 (a .y) (b .x))
+  pub cross-is : Exact productLimit (cross a b) (product64 (a .x) (b .y) -ℤ product64 (a .y) (b .x))
   unfolding cross
   cross-is = minus-is (h .x-size) (k .y-size) (h .y-size) (k .x-size)
 
-  pub dot-is : Exact most (dot a b) (product64 (a .x) (b .x) +ℤ product64 (a .y) (b .y))
+  pub dot-is : Exact productLimit (dot a b) (product64 (a .x) (b .x) +ℤ product64 (a .y) (b .y))
   unfolding dot
   dot-is = plus-is (h .x-size) (k .x-size) (h .y-size) (k .y-size)
 
   module _ {z : ℤ} where
-    pub cross-local : z ≡ cross a b → Exact most (cross a b) (i64 z)
+    pub cross-local : z ≡ cross a b → Exact productLimit (cross a b) (i64 z)
     cross-local e = stored w64 (record { bound = cross-is .bound; exact = e }) tt
 
-    pub dot-local : z ≡ dot a b → Exact most (dot a b) (i64 z)
+    pub dot-local : z ≡ dot a b → Exact productLimit (dot a b) (i64 z)
     dot-local e = stored w64 (record { bound = dot-is .bound; exact = e }) tt

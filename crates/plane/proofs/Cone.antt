@@ -4,7 +4,8 @@
 --     turn-next        d right of e, pointing along f and not back along e, is right of f
 --     turn-previous    its mirror: d right of f, pointing back along e and not along f, is right of e
 --     left-trans       of u, v and w left of e: v left of u and w left of v make w left of u
---     left-of-chord    d left of a to b and of b to c is left of a to c, if an edge into d has none of a, b, c on its right, and a on its left
+--     left-of-chord    d left of a to b and of b to c is left of a to c, if an edge into d has none of a, b, c on its right, and a on
+--                      its left
 use mathlib.Core.List.{[], _∷_}
 use lib.IntN.{pos}
 use lib.Signed.{_≤ℤ_, _<ℤ_}

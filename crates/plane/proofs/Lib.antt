@@ -5,3 +5,4 @@ pub mod Arithmetic
 pub mod Range
 pub mod Tests
 pub mod Points
+pub mod Foot

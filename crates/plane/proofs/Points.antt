@@ -8,7 +8,7 @@
 --     dot-self-0                      the vector from a point to itself is 0, and so is its dot with any
 --     line-end                        a point's side number against an edge, from the edge's other end
 --     dot-trans                       if q is not farther in the direction u than p, nor r than q, then r is not farther than p
---     same-refl, same-sym, same-trans    being the same point is an equivalence
+--     same-refl, same-sym, same-trans, same?    being the same point is an equivalence, and it is decided
 --     not-apart                       points at squared distance 0 are the same
 --     obtuse-not-farther, obtuse-nearer    where the angle at y from v to z is not acute, y is not farther from v than z, and nearer
 --                                     unless z is the same point
@@ -16,7 +16,7 @@
 use Prim.Native.Nat.{ℕ, suc}
 use mathlib.Core.Path.{_≡_, refl, sym}
 use mathlib.Core.List.{List, [], _∷_}
-use lib.IntN.{ℤ, pos, _+ℤ_, _-ℤ_, _*ℤ_, +ℤ-comm}
+use lib.IntN.{ℤ, pos, _+ℤ_, _-ℤ_, _*ℤ_, +ℤ-comm, ℤ-discrete}
 use lib.Signed.{_≤ℤ_, _<ℤ_}
 use Rattle.integers.proofs.Polynomial.{Expr, var, lit, _⊕_, _⊖_, _⊗_, solve}
 use Rattle.integers.proofs.Certificate.{_≺_, _≼_, _≗_, hyp, num, sq, eqn, _⊞_, _⊠_, prove}
@@ -98,6 +98,15 @@ same-trans {w} {y} {z} proper a b = record {
         prove (a ∷ b ∷ c ∷ pos (w .lower) ∷ pos (y .lower) ∷ pos (z .lower) ∷ [])
         (O ≺ l ∷ var 0 ⊗ l ≗ var 1 ⊗ k ∷ var 1 ⊗ m ≗ var 2 ⊗ l ∷ []) (var 0 ⊗ m ≗ var 2 ⊗ k)
         (hyp 0 ⊠ hyp 1 ⊞ eqn 2 m ⊞ eqn 3 k) tt proper
+
+-- and whether two points are the same can be decided
+pub same? : (y z : Point) → Dec (Same y z)
+same? y z = go (ℤ-discrete _ _) (ℤ-discrete _ _)
+  where
+    go : Dec (y .x *ℤ pos (z .lower) ≡ z .x *ℤ pos (y .lower)) → Dec (y .y *ℤ pos (z .lower) ≡ z .y *ℤ pos (y .lower)) → Dec (Same y z)
+    go (yes x) (yes y) = yes (record { same-x = x; same-y = y })
+    go (yes x) (no other) = no (λ same. other (same .same-y))
+    go (no other) y = no (λ same. other (same .same-x))
 
 -- a sum of squares is not above 0 only where both are of 0
 pub not-apart : (y z : Point) → dot (y ⇢ z) (y ⇢ z) ≤ℤ pos 0 → Same y z

@@ -2,7 +2,8 @@
 --     Proper                the lower number D is at least 1
 --     whole                 a point with whole coordinates, D = 1
 --     _⇢_                   the vector from a point to another, times both lower numbers
---     Same                  two such points are the same point, whatever their lower numbers
+--     Same                  two proper points are the same point, whatever their lower numbers
+--     farness               the squared distance from v to y, on the scale that compares it with that from v to z
 --     NotFarther, Nearer    y is not farther from v than z; y is nearer to v than z
 -- A length is squared and an order multiplied out, so that all stays in whole numbers.
 use mathlib.Core.Path.{_≡_}

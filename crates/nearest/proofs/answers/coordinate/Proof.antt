@@ -4,22 +4,21 @@ use lib.IntN.{ℤ, _+ℤ_, _*ℤ_}
 use mir.Syntax.{w32, w64}
 use Rattle.integers.specs.Size.{AtMost}
 use Rattle.integers.proofs.Machine.{i32, i64, Exact, value, stored, plus, times, fits}
-use Rattle.plane.specs.Range.{limit, reach}
-use Rattle.plane.proofs.Arithmetic.{most}
+use Rattle.plane.specs.Range.{limit, reach, productLimit}
 use Rattle.nearest.proofs.answers.coordinate.Statement.{statement}
 use Rattle.nearest.proofs.answers.coordinate.Tie as tie
 
 start-is : {s : ℤ} → AtMost limit s → Exact limit s (i32 s)
 start-is h = stored w32 (value h) tt
 
-first : {l s : ℤ} → AtMost most l → AtMost limit s → Exact (most * limit) (l *ℤ s) (i64 l *ℤ i64 (i32 s))
+first : {l s : ℤ} → AtMost productLimit l → AtMost limit s → Exact (productLimit * limit) (l *ℤ s) (i64 l *ℤ i64 (i32 s))
 first h k = times (stored w64 (value h) tt) (stored w64 (start-is k) tt)
 
-second : {t r : ℤ} → AtMost most t → AtMost reach r → Exact (most * reach) (t *ℤ r) (i64 t *ℤ i64 r)
+second : {t r : ℤ} → AtMost productLimit t → AtMost reach r → Exact (productLimit * reach) (t *ℤ r) (i64 t *ℤ i64 r)
 second h k = times (stored w64 (value h) tt) (stored w64 (value k) tt)
 
-sum : {l s t r : ℤ} → AtMost most l × (AtMost limit s × (AtMost most t × AtMost reach r))
-    → Exact (most * limit + most * reach) (l *ℤ s +ℤ t *ℤ r) (i64 (i64 l *ℤ i64 (i32 s)) +ℤ i64 (i64 t *ℤ i64 r))
+sum : {l s t r : ℤ} → AtMost productLimit l × (AtMost limit s × (AtMost productLimit t × AtMost reach r))
+    → Exact (productLimit * limit + productLimit * reach) (l *ℤ s +ℤ t *ℤ r) (i64 (i64 l *ℤ i64 (i32 s)) +ℤ i64 (i64 t *ℤ i64 r))
 sum (l, (s, (t, r))) = plus (stored w64 (first l s) tt) (stored w64 (second t r) tt)
 
 cast-from : tie.Need-cast-from

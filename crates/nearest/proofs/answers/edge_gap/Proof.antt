@@ -1,6 +1,6 @@
 -- `nearest::answers::edge_gap` computes the two numbers exactly.
 use borrow.Author.Needs.{needs}
-use Rattle.nearest.proofs.Sizes.{length-cast, length-exact, square-fits, square-cast, square-exact}
+use Rattle.nearest.proofs.Sizes.{length-cast, length-exact, side-square-fits, square-cast, square-exact}
 use Rattle.nearest.proofs.answers.edge_gap.Statement.{statement}
 use Rattle.nearest.proofs.answers.edge_gap.Tie as tie
 
@@ -11,7 +11,7 @@ squared-length-requires : tie.Need-squared-length-requires
 squared-length-requires c κs = search needs
 
 mul-t5 : tie.Need-mul-t5
-mul-t5 c = let pre = c .before .before .pre in square-fits (c .before .side .ensures) (pre .0) (pre .1)
+mul-t5 c = let pre = c .before .before .pre in side-square-fits (c .before .side .ensures) (pre .0) (pre .1)
 
 cast-t6 : tie.Need-cast-t6
 cast-t6 c = let pre = c .before .before .pre in square-cast (c .before .side .ensures) (pre .0) (pre .1)

@@ -7,9 +7,9 @@ use mir.Syntax.{w32, w64}
 use Rattle.integers.specs.Size.{AtMost}
 use Rattle.integers.proofs.Machine.{i32, i64, Exact, value, stored, plus, times}
 use Rattle.plane.specs.declared.Vector.{Vector}
-use Rattle.plane.specs.Range.{Span, limit, reach}
+use Rattle.plane.specs.Range.{Span, limit, reach, productLimit}
 use Rattle.plane.specs.Vector.{dot}
-use Rattle.plane.proofs.Arithmetic.{most, dot-local}
+use Rattle.plane.proofs.Arithmetic.{dot-local}
 use Rattle.nearest.proofs.Sizes.{length-cast, length-exact}
 use Rattle.nearest.proofs.answers.foot.Statement.{statement}
 use Rattle.nearest.proofs.answers.foot.Tie as tie
@@ -20,10 +20,10 @@ size-of r = rw (r .exact) (r .bound)
 -- what `coordinate` asks and gives, of a squared length l and a dot product t in locals and fields s and r
 module _ {run to : Vector} {l t s r : ℤ} (run-in : Span reach run) (to-in : Span reach to) (is-l : l ≡ dot run run) (is-t : t ≡ dot to run)
     (s-in : AtMost limit s) (r-in : AtMost reach r) where
-  length-is : Exact most (dot run run) (i64 l)
+  length-is : Exact productLimit (dot run run) (i64 l)
   length-is = dot-local run-in run-in is-l
 
-  along-is : Exact most (dot to run) (i64 t)
+  along-is : Exact productLimit (dot to run) (i64 t)
   along-is = dot-local to-in run-in is-t
 
   start-is : Exact limit s (i32 s)
@@ -32,7 +32,7 @@ module _ {run to : Vector} {l t s r : ℤ} (run-in : Span reach run) (to-in : Sp
   run-is : Exact reach r (i64 r)
   run-is = stored w64 (value r-in) tt
 
-  asked : AtMost most (i64 l) × (AtMost limit (i32 s) × (AtMost most (i64 t) × AtMost reach (i64 r)))
+  asked : AtMost productLimit (i64 l) × (AtMost limit (i32 s) × (AtMost productLimit (i64 t) × AtMost reach (i64 r)))
   asked = (size-of length-is, (size-of start-is, (size-of along-is, size-of run-is)))
 
   given : {x : ℤ} → x ≡ i64 l *ℤ i32 s +ℤ i64 t *ℤ i64 r → i64 x ≡ dot run run *ℤ s +ℤ dot to run *ℤ r

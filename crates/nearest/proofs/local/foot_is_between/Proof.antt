@@ -10,7 +10,7 @@ use mir.Val.{SFits}
 use Rattle.integers.proofs.Order.{leZ-true, leZ-false, ≤ℤ-ltZ, <ℤ-ltZ}
 use Rattle.plane.specs.declared.Corner.{Corner}
 use Rattle.plane.proofs.Range.{span-difference}
-use Rattle.nearest.specs.Feature.{along, squaredLength}
+use Rattle.nearest.specs.Local.{along, squaredLength}
 use Rattle.nearest.specs.Local.{footIsBetween}
 use Rattle.nearest.proofs.local.foot_is_between.Statement.{statement}
 use Rattle.nearest.proofs.local.foot_is_between.Tie as tie
