@@ -39,7 +39,7 @@ pub fn remove_corner(s: &[i32], k: usize, out: &mut [i32]) -> Verdict
 pub fn nearest_point(v: Corner, s: &[i32]) -> NearestAnswer
     ensures { λ r. ⌜ r ≡ nearestAnswer v (now (s .entry)) ⌝ }
 {
-    let reading = outline::read(s, RefusedSide::NoSide);
+    let reading = read_outline(s);
     let verdict = reading.verdict;
     if let Verdict::Refused(refusal) = verdict {
         return NearestAnswer::Refused(refusal);

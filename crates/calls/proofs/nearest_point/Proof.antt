@@ -6,14 +6,14 @@ use Rattle.nearest.proofs.CallLaws.{call-unread, call-out-of-range, call-asks, 
 use Rattle.calls.proofs.nearest_point.Statement.{statement}
 use Rattle.calls.proofs.nearest_point.Tie as tie
 
-read-requires : tie.Need-read-requires
-read-requires c κs = search needs
+read-outline-requires : tie.Need-read-outline-requires
+read-outline-requires c κs = search needs
 
 enum-known-verdict : tie.Need-enum-known-verdict
 enum-known-verdict c = search needs
 
 returns : tie.Need-returns
-returns c = call-unread _ _ (c .before .before .before .read .ensures) (c .before .verdict .given .1)
+returns c = call-unread _ _ (c .before .before .before .read-outline .ensures) (c .before .verdict .given .1)
 
 enum-told : tie.Need-enum-told
 enum-told c = search needs
@@ -27,22 +27,22 @@ refusal-requires c κs = search needs
 returns-2 : tie.Need-returns-2
 returns-2 c =
     ap Refused (c .refusal .ensures)
-    ∙ call-out-of-range _ _ (c .before .before .before .before .before .read .ensures) (c .before .before .before .enum-told .given .1) (cc)
+    ∙ call-out-of-range _ _ (c .before .before .before .before .before .read-outline .ensures) (c .before .before .before .enum-told .given .1) (cc)
 
 nearest-requires : tie.Need-nearest-requires
 nearest-requires c κs =
-    call-asks _ _ (c .before .before .before .before .read .ensures) (c .before .before .enum-told .given .1) (cc)
+    call-asks _ _ (c .before .before .before .before .read-outline .ensures) (c .before .before .enum-told .given .1) (cc)
 
 returns-3 : tie.Need-returns-3
 returns-3 c =
     ap Found (c .nearest .ensures)
-    ∙ call-found _ _ (c .before .before .before .before .before .read .ensures) (c .before .before .before .enum-told .given .1) (cc)
+    ∙ call-found _ _ (c .before .before .before .before .before .read-outline .ensures) (c .before .before .before .enum-told .given .1) (cc)
 
 pub nearest-point-spec : {M : Type 1} → statement M
 nearest-point-spec =
     tie.close
     (tie.spec
-    read-requires
+    read-outline-requires
     enum-known-verdict
     returns
     enum-told
