@@ -45,10 +45,8 @@ pub fn nearest_point(v: Corner, s: &[i32]) -> NearestAnswer
         return NearestAnswer::Refused(refusal);
     }
     if !plane::in_range(v) {
-        return NearestAnswer::Refused(refusals::refusal(
-            RefusedSide::NoSide,
-            Fault::PointOutOfRange,
-        ));
+        let fault = Fault::PointOutOfRange;
+        return NearestAnswer::Refused(refusals::refusal(RefusedSide::NoSide, fault));
     }
     NearestAnswer::Found(nearest::nearest(reading.outline, v))
 }
