@@ -9,7 +9,7 @@
 -- `proofs/AnswerLaws.antt` shows that `nearest` is the one answer that document 01's definition (`Nearest.antt`) admits.
 -- For the code, which tries at an edge only if v is strictly right of it:
 --     isRight, footIsBetween            the two parts of the test of an edge
---     nearestPart                         the part of an edge that is nearest to v, if any
+--     nearestPart                       the part of an edge that is nearest to v, if any
 use Prim.Native.Nat.{ℕ, zero, suc, _<_}
 use mathlib.Core.Path.{_≡_}
 use mathlib.Core.Bool.{Bool, true, false, cond, not, _&&_}
@@ -44,11 +44,11 @@ cornerIsNearest v before c after =
 abbrev pub isRight : Corner → Corner → Corner → Bool
 isRight v p q = ltZ (side p q v) (pos 0)
 
--- its foot lies strictly between them
+-- the foot of v lies strictly between p and q
 abbrev pub footIsBetween : Corner → Corner → Corner → Bool
 footIsBetween v p q = ltZ (pos 0) (along p q v) && ltZ (along p q v) (squaredLength p q)
 
--- both
+-- the test of the edge: both
 abbrev pub edgeIsNearest : Corner → Corner → Corner → Bool
 edgeIsNearest v p q = isRight v p q && footIsBetween v p q
 

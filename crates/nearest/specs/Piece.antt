@@ -31,6 +31,6 @@ pub record InPiece (cs : List Corner) (z : Point) : Type 0 where
 abbrev pub Outside : List Corner → Point → Type 0
 Outside cs z = ¬ InPiece cs z
 
--- not: strictly right of no edge
+-- it does not hold of every edge that v is on its line or left of it
 abbrev pub isOutside : List Corner → Corner → Bool
 isOutside cs v = not (all (λ i. leZ (pos 0) (side (corner cs i) (corner cs (next (length cs) i)) v)) (length cs))
