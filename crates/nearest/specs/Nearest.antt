@@ -22,7 +22,8 @@ use Rattle.nearest.specs.declared.NearestPoint.{NearestPoint}
 use Rattle.nearest.specs.Feature.{values}
 use Rattle.nearest.specs.Piece.{edge, sideOf, InPiece, Outside}
 
--- the point y of the piece for which (v - y)·(c - y) is at most 0 for every corner c of the piece
+-- the point y of the piece for which (v - y)·(c - y) is at most 0 for every corner c of the piece. Here it is multiplied by the lower
+-- numbers of v and y, which are above 0
 pub record Nearest (cs : List Corner) (v y : Point) : Type 0 where
   pub in-piece : InPiece cs y
   pub at-most-0 : (i : ℕ) → i < length cs → dot (y ⇢ v) (y ⇢ whole (corner cs i)) ≤ℤ pos 0
@@ -33,7 +34,8 @@ pub record Between (cs : List Corner) (i : ℕ) (y : Point) : Type 0 where
   pub after-start : pos 0 <ℤ dot (edge cs i) (whole (corner cs i) ⇢ y)
   pub before-end : pos 0 <ℤ dot (edge cs i) (y ⇢ whole (corner cs (next (length cs) i)))
 
--- within (v is in the piece, y = v); corner i; edge i, where y lies strictly between its ends
+-- within (v is in the piece, y = v); corner i; edge i, where y lies strictly between its ends. Of a nearest point y, and so of a point
+-- of the piece
 abbrev pub Fits : List Corner → Point → Point → Feature → Type 0
 Fits cs v y Within = InPiece cs v × Same y v
 Fits cs v y (AtCorner i) = Outside cs v × (i < length cs) × Same y (whole (corner cs i))

@@ -1,4 +1,4 @@
-// Points and vectors of the plane with whole coordinates, and the side number.
+// Points and vectors of the plane with whole coordinates, points with fractions, and the side number.
 ghost use mathlib.Core.Path.{_≡_};
 ghost use Rattle.plane.specs.Vector.{_⇀_, cross, dot, same};
 ghost use Rattle.integers.specs.Equal.{eqZ};
