@@ -1,9 +1,11 @@
 -- The order of fractions, as contracts state it.
 --     order x y    the three-way comparison of two natural numbers: Less, Equal or Greater
+--     isLess       a fraction is less than another, as values
+--     NotGreater   the same as a proposition, the other way round: it is not greater
 --     Bounded a    the bounds under which `compare` is exact in 64 bits
 -- Fractions are compared by their cross products: n1 / d1 is to n2 / d2 as n1 * d2 is to n2 * d1, in unbounded numbers.
-use mathlib.Core.Bool.{cond}
-use Prim.Native.Nat.{ℕ, _^_, _<_}
+use mathlib.Core.Bool.{Bool, cond}
+use Prim.Native.Nat.{ℕ, _^_, _*_, _<_, _≤_}
 use lib.Dec.{ltb}
 use Rattle.integers.specs.declared.fraction.Fraction.{Fraction}
 use Rattle.integers.specs.declared.fraction.Order.{Order}
@@ -11,6 +13,12 @@ use Rattle.integers.specs.declared.fraction.Order.the-variants.{Less, Eq
 
 unfoldable pub order : ℕ → ℕ → Order
 order x y = cond (ltb x y) Less (cond (ltb y x) Greater Equal)
+
+abbrev pub isLess : Fraction → Fraction → Bool
+isLess a b = ltb (a .upper * b .lower) (b .upper * a .lower)
+
+abbrev pub NotGreater : Fraction → Fraction → Type 0
+NotGreater a b = a .upper * b .lower ≤ b .upper * a .lower
 
 -- A remainder and a lower number, of 32 bits each, have a product of 64.
 pub record Bounded (a : Fraction) : Type 0 where

@@ -2,3 +2,4 @@
 pub mod Size
 pub mod Equal
 pub mod Fraction
+pub mod Root

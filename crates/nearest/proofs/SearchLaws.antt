@@ -30,7 +30,8 @@ use Rattle.nearest.specs.Piece.{InPiece, Outside, isOutside}
 use Rattle.nearest.specs.Feature.{values}
 use Rattle.nearest.specs.Nearest.{Fits, SquaredDistance}
 use Rattle.nearest.specs.Local.{isEdge, Tested, feature, nearest}
-use Rattle.nearest.specs.Search.{within, triedCorners, triedEdges, tried, isLess, least, leastOf, search}
+use Rattle.integers.specs.Fraction.{isLess}
+use Rattle.nearest.specs.Search.{within, triedCorners, triedEdges, tried, least, leastOf, search}
 use Rattle.nearest.proofs.Support.{corner-in-piece}
 use Rattle.nearest.proofs.NearestLaws.{others-farther}
 use Rattle.nearest.proofs.LocalLaws.{edge-nearest}

@@ -3,17 +3,16 @@
 --     within, tryCorner, tryEdge    a candidate: a feature with its gap and its point
 --     isTried               whether an edge is tried
 --     tried                 all that is tried for a v that is not in the piece
---     isLess, leastOf       the order of gaps; the candidate with the least gap
+--     leastOf               the candidate with the least gap, as a value
 --     search                v's feature, gap and point
 -- `proofs/SearchLaws.antt` shows that it finds the nearest point, in whatever order the candidates are tried.
-use Prim.Native.Nat.{ℕ, zero, suc, _*_}
+use Prim.Native.Nat.{ℕ, zero, suc}
 use mathlib.Core.Bool.{Bool, cond, _&&_}
 use mathlib.Core.List.{List, [], _∷_, _++_}
-use lib.Dec.{ltb}
 use lib.IntN.{pos, natAbs, _+ℤ_, _*ℤ_}
 use lib.ListN.{length}
 use lib.Signed.{ltZ}
-use Rattle.integers.specs.declared.fraction.Fraction.{Fraction}
+use Rattle.integers.specs.Fraction.{isLess}
 use Rattle.plane.specs.declared.Corner.{Corner}
 use Rattle.plane.specs.Vector.{_⇀_, dot, side}
 use Rattle.outline.specs.Corners.{corner, next}
@@ -66,10 +65,6 @@ triedEdges cs v (suc n) =
 
 unfoldable pub tried : List Corner → Corner → List NearestPoint
 tried cs v = triedCorners cs v (length cs) ++ triedEdges cs v (length cs)
-
--- n1 / d1 is less than n2 / d2, as values
-abbrev pub isLess : Fraction → Fraction → Bool
-isLess a b = ltb (a .upper * b .lower) (b .upper * a .lower)
 
 -- the least of a and the rest; the first of equals
 unfoldable pub least : NearestPoint → List NearestPoint → NearestPoint

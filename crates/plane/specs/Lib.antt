@@ -2,3 +2,4 @@
 pub mod Vector
 pub mod Range
 pub mod Point
+pub mod Direction

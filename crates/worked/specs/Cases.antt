@@ -22,6 +22,16 @@ use Rattle.nearest.specs.declared.NearestPoint.{NearestPoint}
 use Rattle.nearest.specs.Call.{nearestAnswer}
 use Rattle.nearest.specs.Search.{search}
 use Rattle.edit.specs.Removal.{removalVerdict, listAfter}
+use Rattle.hausdorff.specs.declared.Side.the-variants.{A, B}
+use Rattle.hausdorff.specs.declared.Worst.{Worst}
+use Rattle.hausdorff.specs.declared.WorstSoFar.{WorstSoFar}
+use Rattle.hausdorff.specs.declared.WorstSoFar.the-variants.{None, Worst as Some}
+use Rattle.hausdorff.specs.declared.Report.{Report}
+use Rattle.hausdorff.specs.declared.Report.the-variants.{Spent, Done}
+use Rattle.hausdorff.specs.Pair.{Pair, both}
+use Rattle.hausdorff.specs.AngularOrder.{PairEdge, angularOrder}
+use Rattle.hausdorff.specs.Report.{report}
+use Rattle.hausdorff.specs.Exhaustive.{exhaustive}
 
 pub data Case : Type 0 where
   -- reading the list ends so
@@ -32,12 +42,24 @@ pub data Case : Type 0 where
   nears : Corner → List ℤ → NearestAnswer → Case
   -- the exhaustive search for a point finds this
   searches : Corner → List ℤ → NearestPoint → Case
+  -- the angular order of the edges of two lists' outlines is this
+  orders : List ℤ → List ℤ → List PairEdge → Case
+  -- comparing them with a step allowance reports this
+  compares : List ℤ → List ℤ → ℕ → Report → Case
+  -- the exhaustive search over both finds this
+  exhausts : List ℤ → List ℤ → Worst → Case
+
+abbrev pair : List ℤ → List ℤ → Pair
+pair s t = both (corners s) (corners t)
 
 abbrev pub Holds : Case → Type 0
 Holds (reads s ends) = reading NoSide s .verdict ≡ ends
 Holds (removes s k out ends after) = (removalVerdict s k out ≡ ends) × (listAfter s k out ≡ after)
 Holds (nears v s ends) = nearestAnswer v s ≡ ends
 Holds (searches v s found) = search (corners s) v ≡ found
+Holds (orders s t order) = angularOrder (pair s t) ≡ order
+Holds (compares s t allowance ends) = report (pair s t) allowance ≡ ends
+Holds (exhausts s t found) = exhaustive (pair s t) ≡ found
 
 abbrev pub All : List Case → Type 0
 All [] = Unit {0}
@@ -95,6 +117,67 @@ tooFew = record { number = 2; side = NoSide; place = Nowhere }
 abbrev pointOut : Refusal
 pointOut = record { number = 7; side = NoSide; place = Nowhere }
 
+unfoldable pub moved : List ℤ
+moved = pos 10 ∷ pos 0 ∷ pos 14 ∷ pos 0 ∷ pos 14 ∷ pos 4 ∷ pos 10 ∷ pos 4 ∷ []
+
+-- S, listed from another corner
+unfoldable pub turned : List ℤ
+turned = pos 4 ∷ pos 4 ∷ pos 0 ∷ pos 4 ∷ pos 0 ∷ pos 0 ∷ pos 4 ∷ pos 0 ∷ []
+
+unfoldable pub low : List ℤ
+low = negsuc 15999 ∷ negsuc 15999 ∷ negsuc 15998 ∷ negsuc 15999 ∷ negsuc 15999 ∷ negsuc 15998 ∷ []
+
+unfoldable pub high : List ℤ
+high = pos 16000 ∷ pos 16000 ∷ pos 15999 ∷ pos 16000 ∷ pos 16000 ∷ pos 15999 ∷ []
+
+abbrev a : ℕ → PairEdge
+a i = record { side = A; number = i }
+
+abbrev b : ℕ → PairEdge
+b i = record { side = B; number = i }
+
+abbrev worstST : Worst
+worstST = record {
+  side = A;
+  corner = 2;
+  feature = OnEdge 1;
+  gap = record { upper = 256; lower = 32 };
+  point = record { x = pos 64; y = pos 64; lower = 32 };
+}
+
+abbrev worstMoved : Worst
+worstMoved = record {
+  side = A;
+  corner = 0;
+  feature = AtCorner 0;
+  gap = record { upper = 100; lower = 1 };
+  point = record { x = pos 10; y = pos 0; lower = 1 };
+}
+
+abbrev worstFar : Worst
+worstFar = record {
+  side = A;
+  corner = 0;
+  feature = OnEdge 1;
+  gap = record { upper = 4095872001; lower = 2 };
+  point = record { x = pos 31999; y = pos 31999; lower = 2 };
+}
+
+abbrev firstWithin : ℤ → ℤ → Worst
+firstWithin x y = record {
+  side = A;
+  corner = 0;
+  feature = Within;
+  gap = record { upper = 0; lower = 1 };
+  point = record { x = x; y = y; lower = 1 };
+}
+
+abbrev spent : ℕ → ℕ → ℕ → WorstSoFar → Report
+spent steps i j worst = Spent (record { steps = steps; support = record { a = i; b = j }; worst = worst })
+
+abbrev done : ℕ → Worst → ℕ → Report
+done steps answer clearance = Done (record { steps = steps; answer = answer; clearance = clearance })
+
 abbrev pub cases : List Case
 cases =
     reads S Taken
@@ -118,4 +201,16 @@ cases =
     ∷ searches (point (pos 6) (pos 6)) wedge edgeOne
     ∷ searches (point (pos 12) (pos 9)) wedge (cornerOne 90)
     ∷ searches (point (pos 6) (pos 1)) wedge (within (pos 6) (pos 1))
+    ∷ orders S T (a 0 ∷ b 0 ∷ a 1 ∷ b 1 ∷ a 2 ∷ a 3 ∷ b 2 ∷ [])
+    ∷ compares S T 512 (done 7 worstST 2)
+    ∷ compares S T 0 (spent 0 0 0 None)
+    ∷ compares S T 3 (spent 3 2 1 None)
+    ∷ compares S T 4 (spent 4 2 2 (Some worstST))
+    ∷ compares S moved 8 (done 8 worstMoved 10)
+    ∷ compares S S 8 (done 8 (firstWithin (pos 0) (pos 0)) 0)
+    ∷ compares S turned 8 (done 8 (firstWithin (pos 0) (pos 0)) 0)
+    ∷ compares turned S 8 (done 8 (firstWithin (pos 4) (pos 4)) 0)
+    ∷ compares low high 6 (done 6 worstFar 45254)
+    ∷ exhausts S T worstST
+    ∷ exhausts low high worstFar
     ∷ []

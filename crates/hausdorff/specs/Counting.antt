@@ -1,0 +1,37 @@
+-- Document 01: when a corner counts, seen from the other outline, cs, whose corner in touch is b.
+--     isPoint      the test whether two points are the same
+--     liesOn       a point lies on edge i, its ends included
+--     meetsAt      a point is corner b or lies on one of the two edges that meet there, ends included
+--     isCounted    v is not within the piece, and its nearest point meets it there
+-- `proofs/CountingLaws.antt` has the local test of the same.
+use Prim.Native.Nat.{ℕ}
+use mathlib.Core.Bool.{Bool, _&&_, _||_}
+use mathlib.Core.List.{List}
+use lib.IntN.{pos, _*ℤ_}
+use lib.ListN.{length}
+use lib.Signed.{leZ}
+use Rattle.integers.specs.Equal.{eqZ}
+use Rattle.plane.specs.declared.Corner.{Corner}
+use Rattle.plane.specs.declared.Point.{Point}
+use Rattle.plane.specs.Point.{whole, _⇢_}
+use Rattle.plane.specs.Vector.{dot}
+use Rattle.outline.specs.Corners.{corner, next, previous}
+use Rattle.nearest.specs.Piece.{edge, sideOf, isOutside}
+use Rattle.nearest.specs.Local.{nearest}
+
+abbrev pub isPoint : Point → Point → Bool
+isPoint y z =
+    eqZ (y .x *ℤ pos (z .lower)) (z .x *ℤ pos (y .lower)) && eqZ (y .y *ℤ pos (z .lower)) (z .y *ℤ pos (y .lower))
+
+-- on the edge's line, not before its start and not after its end
+abbrev pub liesOn : List Corner → ℕ → Point → Bool
+liesOn cs i y =
+    eqZ (sideOf cs i y) (pos 0)
+    && leZ (pos 0) (dot (edge cs i) (whole (corner cs i) ⇢ y))
+    && leZ (pos 0) (dot (edge cs i) (y ⇢ whole (corner cs (next (length cs) i))))
+
+unfoldable pub meetsAt : List Corner → ℕ → Point → Bool
+meetsAt cs b y = isPoint y (whole (corner cs b)) || liesOn cs (previous (length cs) b) y || liesOn cs b y
+
+unfoldable pub isCounted : List Corner → ℕ → Corner → Bool
+isCounted cs b v = isOutside cs v && meetsAt cs b (nearest cs v .point)

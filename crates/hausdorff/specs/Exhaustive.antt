@@ -1,0 +1,29 @@
+-- Document 01: the trial, an exhaustive search. It is fed the corners of A and B and nothing from the sweep or the nearest point.
+--     tried         what is found for corner i of a side, by trying every corner and edge of the other outline (`search`)
+--     worse         a later corner takes the place of the worst only if its gap is greater as a value
+--     tryCorners    the worst, after the corners of a side below n
+--     exhaustive    A's corners by number, then B's; the worst is A's corner 0 at first
+use Prim.Native.Nat.{ℕ, zero, suc}
+use mathlib.Core.Bool.{cond}
+use lib.ListN.{length}
+use Rattle.integers.specs.Fraction.{isLess}
+use Rattle.outline.specs.Corners.{corner}
+use Rattle.nearest.specs.Search.{search}
+use Rattle.hausdorff.specs.declared.Side.{Side}
+use Rattle.hausdorff.specs.declared.Side.the-variants.{A, B}
+use Rattle.hausdorff.specs.declared.Worst.{Worst}
+use Rattle.hausdorff.specs.Pair.{Pair, other}
+use Rattle.hausdorff.specs.Worst.{named}
+
+abbrev pub tried : Pair → Side → ℕ → Worst
+tried pair s i = named s i (search (pair (other s)) (corner (pair s) i))
+
+abbrev pub worse : Worst → Worst → Worst
+worse worst new = cond (isLess (worst .gap) (new .gap)) new worst
+
+unfoldable pub tryCorners : Pair → Side → Worst → ℕ → Worst
+tryCorners pair s worst zero = worst
+tryCorners pair s worst (suc n) = worse (tryCorners pair s worst n) (tried pair s n)
+
+abbrev pub exhaustive : Pair → Worst
+exhaustive pair = tryCorners pair B (tryCorners pair A (tried pair A 0) (length (pair A))) (length (pair B))

@@ -1,0 +1,30 @@
+-- Document 01, "Gap of one corner": the answer, from the nearest relation alone. It cites neither the steps nor the exhaustive search.
+--     IsGap       a corner of one outline with its feature, gap and nearest point in the other
+--     NotLater    A's corners come before B's, and then lower numbers
+--     IsAnswer    the greatest gap over all corners of both, the first of equals. Its gap is the true figure
+-- `proofs/FigureLaws.antt` shows that there is one answer, and that it is A's corner 0, within, if every gap is zero.
+use Prim.Native.Nat.{ℕ, _<_, _≤_}
+use lib.ListN.{length}
+use Rattle.integers.specs.Fraction.{NotGreater}
+use Rattle.outline.specs.Corners.{corner}
+use Rattle.nearest.specs.Nearest.{Answers}
+use Rattle.hausdorff.specs.declared.Side.{Side}
+use Rattle.hausdorff.specs.declared.Side.the-variants.{A, B}
+use Rattle.hausdorff.specs.declared.Worst.{Worst}
+use Rattle.hausdorff.specs.Pair.{Pair, other}
+use Rattle.hausdorff.specs.Worst.{found}
+
+pub record IsGap (pair : Pair) (w : Worst) : Type 0 where
+  pub known : w .corner < length (pair (w .side))
+  pub answers : Answers (pair (other (w .side))) (corner (pair (w .side)) (w .corner)) (found w)
+
+abbrev pub NotLater : Side → ℕ → Side → ℕ → Type 0
+NotLater A i A j = i ≤ j
+NotLater A i B j = Unit {0}
+NotLater B i A j = ⊥
+NotLater B i B j = i ≤ j
+
+pub record IsAnswer (pair : Pair) (w : Worst) : Type 0 where
+  pub is-gap : IsGap pair w
+  pub greatest : (z : Worst) → IsGap pair z → NotGreater (z .gap) (w .gap)
+  pub first : (z : Worst) → IsGap pair z → NotGreater (w .gap) (z .gap) → NotLater (w .side) (w .corner) (z .side) (z .corner)

@@ -1,0 +1,53 @@
+-- Document 01: what a comparison of two accepted outlines gives for a step allowance.
+--     clearance      the clearance figure of a gap: the largest whole number whose square is not above it
+--     firstWithin    A's corner 0, within
+--     answer         the worst so far after step N, or A's corner 0, within, if that is none
+--     spent, done    the two reports
+--     report         spent if the allowance is below N, otherwise done
+use Prim.Native.Nat.{ℕ, _/_}
+use mathlib.Core.Bool.{cond}
+use lib.Dec.{ltb}
+use Rattle.integers.specs.declared.fraction.Fraction.{Fraction}
+use Rattle.integers.specs.Root.{root}
+use Rattle.outline.specs.Corners.{corner}
+use Rattle.nearest.specs.Feature.{withinValues}
+use Rattle.hausdorff.specs.declared.Side.the-variants.{A, B}
+use Rattle.hausdorff.specs.declared.Worst.{Worst}
+use Rattle.hausdorff.specs.declared.WorstSoFar.{WorstSoFar}
+use Rattle.hausdorff.specs.declared.WorstSoFar.the-variants.{None, Worst as Some}
+use Rattle.hausdorff.specs.declared.Spent.{Spent}
+use Rattle.hausdorff.specs.declared.Done.{Done}
+use Rattle.hausdorff.specs.declared.Report.{Report}
+use Rattle.hausdorff.specs.declared.Report.the-variants.{Spent as IsSpent, Done as IsDone}
+use Rattle.hausdorff.specs.Pair.{Pair, stepCount}
+use Rattle.hausdorff.specs.Worst.{named}
+use Rattle.hausdorff.specs.Sweep.{after, worstSoFar}
+
+-- a whole number's square is not above a fraction exactly where it is not above its whole part
+abbrev pub clearance : Fraction → ℕ
+clearance g = root (g .upper / g .lower)
+
+abbrev pub firstWithin : Pair → Worst
+firstWithin pair = named A 0 (withinValues (corner (pair A) 0))
+
+abbrev pub orFirstWithin : Pair → WorstSoFar → Worst
+orFirstWithin pair None = firstWithin pair
+orFirstWithin pair (Some w) = w
+
+abbrev pub answer : Pair → Worst
+answer pair = orFirstWithin pair (worstSoFar pair (stepCount pair))
+
+-- the steps made (equal to the allowance), both corners in touch, and the worst so far or none
+abbrev pub spent : Pair → ℕ → Spent
+spent pair allowance = record {
+  steps = allowance;
+  support = record { a = after pair allowance .support A; b = after pair allowance .support B };
+  worst = worstSoFar pair allowance;
+}
+
+-- the steps made (equal to N), the answer and its clearance figure
+abbrev pub done : Pair → Done
+done pair = record { steps = stepCount pair; answer = answer pair; clearance = clearance (answer pair .gap) }
+
+unfoldable pub report : Pair → ℕ → Report
+report pair allowance = cond (ltb allowance (stepCount pair)) (IsSpent (spent pair allowance)) (IsDone (done pair))

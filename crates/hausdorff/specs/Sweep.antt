@@ -1,0 +1,57 @@
+-- Document 01: the sweep.
+--     Sweep         what it knows: the corner in touch of each side, here support corner, and the worst so far of each side
+--     begin         before step 1
+--     measured      what measuring finds of a side: its corner in touch if it counts, or none
+--     passed        the corners in touch after an edge was passed
+--     step, steps   step k first measures and then passes the k-th edge
+--     after         the sweep after k steps
+--     worstSoFar    the worst of both sides
+use Prim.Native.Nat.{ℕ}
+use mathlib.Core.Bool.{cond}
+use mathlib.Core.List.{List, [], _∷_}
+use lib.ListN.{length, take}
+use Rattle.outline.specs.Corners.{corner, next}
+use Rattle.hausdorff.specs.declared.Side.{Side}
+use Rattle.hausdorff.specs.declared.Side.the-variants.{A, B}
+use Rattle.hausdorff.specs.declared.WorstSoFar.{WorstSoFar}
+use Rattle.hausdorff.specs.declared.WorstSoFar.the-variants.{None, Worst as Some}
+use Rattle.hausdorff.specs.Pair.{Pair, other, sameSide}
+use Rattle.hausdorff.specs.AngularOrder.{PairEdge, angularOrder, own}
+use Rattle.hausdorff.specs.Counting.{isCounted}
+use Rattle.hausdorff.specs.Worst.{gapOf, shownNumber, keep, overall}
+
+pub record Sweep : Type 0 where
+  pub support : Side → ℕ
+  pub worst : Side → WorstSoFar
+
+abbrev pub headOr : ℕ → List ℕ → ℕ
+headOr z [] = z
+headOr z (i ∷ is) = i
+
+-- the corner in touch of each outline is the start of its own first edge in the order. Each has one; 0 stands for none
+unfoldable pub begin : Pair → Sweep
+begin pair = record { support = λ s. headOr 0 (own s (angularOrder pair)); worst = λ s. None }
+
+unfoldable pub measured : Pair → (Side → ℕ) → Side → WorstSoFar
+measured pair support s =
+    cond (isCounted (pair (other s)) (support (other s)) (corner (pair s) (support s))) (Some (gapOf pair s (support s))) None
+
+-- passing an edge moves that outline's corner in touch to the end of the edge
+abbrev pub passed : Pair → PairEdge → (Side → ℕ) → Side → ℕ
+passed pair e support s = cond (sameSide s (e .side)) (next (length (pair s)) (e .number)) (support s)
+
+unfoldable pub step : Pair → PairEdge → Sweep → Sweep
+step pair e sweep = record {
+  support = passed pair e (sweep .support);
+  worst = λ s. keep (shownNumber s) (sweep .worst s) (measured pair (sweep .support) s);
+}
+
+unfoldable pub steps : Pair → List PairEdge → Sweep → Sweep
+steps pair [] sweep = sweep
+steps pair (e ∷ es) sweep = steps pair es (step pair e sweep)
+
+abbrev pub after : Pair → ℕ → Sweep
+after pair k = steps pair (take k (angularOrder pair)) (begin pair)
+
+abbrev pub worstSoFar : Pair → ℕ → WorstSoFar
+worstSoFar pair k = overall (after pair k .worst A) (after pair k .worst B)

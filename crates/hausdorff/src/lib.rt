@@ -1,0 +1,52 @@
+// The Hausdorff distance of two outlines: what a comparison by steps reports. `specs/` defines the steps and the figure, and `proofs/`
+// shows that the steps find it (`proofs/Law.antt`). The calls follow.
+use integers::fraction::Fraction;
+use nearest::Feature;
+use plane::Point;
+
+// One of the two outlines that are compared.
+pub enum Side {
+    A,
+    B,
+}
+
+// A corner of one outline with its gap to the other: side, corner, nearest feature, gap and nearest point.
+pub struct Worst {
+    pub side: Side,
+    pub corner: usize,
+    pub feature: Feature,
+    pub gap: Fraction,
+    pub point: Point,
+}
+
+// Document 01: the worst so far, or none.
+pub enum WorstSoFar {
+    None,
+    Worst(Worst),
+}
+
+// Document 01: the corners in touch, one of each outline.
+pub struct Supports {
+    pub a: usize,
+    pub b: usize,
+}
+
+// Document 01: the allowance was below the number of steps. The steps made, the corners in touch and the worst so far.
+pub struct Spent {
+    pub steps: u32,
+    pub support: Supports,
+    pub worst: WorstSoFar,
+}
+
+// Document 01: all steps were made. Their number, the answer and its clearance figure.
+pub struct Done {
+    pub steps: u32,
+    pub answer: Worst,
+    pub clearance: u64,
+}
+
+// What comparing two accepted outlines reports.
+pub enum Report {
+    Spent(Spent),
+    Done(Done),
+}
