@@ -6,12 +6,16 @@
 --     allEdges        all edges of both outlines
 --     angularOrder    all edges by direction; at equal direction A's edge comes first
 --     own             the numbers of one side's edges in a list of edges, in its order
+--     headOr          the first of a list, or another number
+--     Cyclic          the edges of a list go round an outline of n edges, back to z
 use Prim.Native.Nat.{ℕ, zero, suc}
+use mathlib.Core.Path.{_≡_}
 use mathlib.Core.Bool.{Bool, true, false, cond, _&&_, _||_}
 use mathlib.Core.List.{List, [], _∷_, _++_}
 use lib.ListN.{length}
 use Rattle.plane.specs.declared.Vector.{Vector}
 use Rattle.plane.specs.Direction.{isBefore, sameDirection}
+use Rattle.outline.specs.Corners.{next}
 use Rattle.nearest.specs.Piece.{edge}
 use Rattle.hausdorff.specs.declared.Side.{Side}
 use Rattle.hausdorff.specs.declared.Side.the-variants.{A, B}
@@ -62,3 +66,13 @@ ownFirst false i is = is
 unfoldable pub own : Side → List PairEdge → List ℕ
 own s [] = []
 own s (e ∷ es) = ownFirst (sameSide s (e .side)) (e .number) (own s es)
+
+-- the first of a list, or z
+abbrev pub headOr : ℕ → List ℕ → ℕ
+headOr z [] = z
+headOr z (i ∷ is) = i
+
+-- each edge is followed by the one that starts where it ends, and the last one by z
+abbrev pub Cyclic : ℕ → ℕ → List ℕ → Type 0
+Cyclic n z [] = Unit {0}
+Cyclic n z (i ∷ is) = (next n i ≡ headOr z is) × Cyclic n z is

@@ -2,7 +2,7 @@
 --     IsGap       a corner of one outline with its feature, gap and nearest point in the other
 --     NotLater    A's corners come before B's, and then lower numbers
 --     IsAnswer    the greatest gap over all corners of both, the first of equals. Its gap is the true figure
--- `proofs/FigureLaws.antt` shows that there is one answer, and that it is A's corner 0, within, if every gap is zero.
+-- `proofs/AnswerLaws.antt` shows that there is one answer, and that it is A's corner 0, within, if every gap is zero.
 use Prim.Native.Nat.{ℕ, _<_, _≤_}
 use lib.ListN.{length}
 use Rattle.integers.specs.Fraction.{NotGreater}

@@ -30,7 +30,7 @@ pub record Law (pair : Pair) (allowance : ℕ) (result : Report) : Type 0 where
       → NotFarther (whole (corner (pair (answer pair .side)) (answer pair .corner))) (answer pair .point) z
   -- its gap is the Hausdorff distance, and its clearance the largest whole number whose square is not above it
   pub distance : Hausdorff pair (answer pair .gap)
-  pub clear : FloorRoot (answer pair .gap) (clearance (answer pair .gap))
+  pub clearance-largest : FloorRoot (answer pair .gap) (clearance (answer pair .gap))
   -- the worst so far, if there is one, is its corner's true gap, and never above the true figure
   pub worst-is-gap : (w : Worst) → worstSoFar pair allowance ≡ Some w → IsGap pair w
   pub worst-not-above : (w z : Worst) → worstSoFar pair allowance ≡ Some w → IsAnswer pair z → NotGreater (w .gap) (z .gap)

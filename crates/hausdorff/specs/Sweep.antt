@@ -16,17 +16,13 @@ use Rattle.hausdorff.specs.declared.Side.the-variants.{A, B}
 use Rattle.hausdorff.specs.declared.WorstSoFar.{WorstSoFar}
 use Rattle.hausdorff.specs.declared.WorstSoFar.the-variants.{None, Worst as Some}
 use Rattle.hausdorff.specs.Pair.{Pair, other, sameSide}
-use Rattle.hausdorff.specs.AngularOrder.{PairEdge, angularOrder, own}
+use Rattle.hausdorff.specs.AngularOrder.{PairEdge, angularOrder, own, headOr}
 use Rattle.hausdorff.specs.Counting.{isCounted}
 use Rattle.hausdorff.specs.Worst.{gapOf, shownNumber, keep, overall}
 
 pub record Sweep : Type 0 where
   pub support : Side → ℕ
   pub worst : Side → WorstSoFar
-
-abbrev pub headOr : ℕ → List ℕ → ℕ
-headOr z [] = z
-headOr z (i ∷ is) = i
 
 -- the corner in touch of each outline is the start of its own first edge in the order. Each has one; 0 stands for none
 unfoldable pub begin : Pair → Sweep

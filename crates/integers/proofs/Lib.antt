@@ -1,5 +1,6 @@
 -- Whole numbers, for the proofs of every crate: laws of the ring and the order, the greatest of finitely many, two tools that prove
--- by computation, tests and what they mean, bounds on machine arithmetic, and exact fractions.
+-- by computation, tests and what they mean, bounds on machine arithmetic, exact fractions and whole parts
+-- of square roots.
 pub mod Ring
 pub mod Order
 pub mod Greatest
@@ -10,3 +11,5 @@ pub mod Signs
 pub mod Reflect
 pub mod Machine
 pub mod FractionLaws
+pub mod FractionOrder
+pub mod RootLaws

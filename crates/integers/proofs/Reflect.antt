@@ -3,14 +3,14 @@
 --     test-not       the negated test
 --     test-stable    P holds where it cannot fail to
 --     test-same      two tests with one meaning are equal
---     test-and       two tests
+--     test-and, test-or    both of two tests, one of two tests
 --     test-eqb, test-ltb, test-leb, test-leZ, test-eqZ    the tests of numbers
 --     ≤-≤ℤ           the order of natural numbers, as integers
 --     and-then, and-stop    two tests made one after the other, as the code's `a && b` makes them
 use Prim.Native.Nat.{ℕ, _<_, _≤_}
 use mathlib.Core.Path.{_≡_, refl, sym, ap, _∙_}
-use mathlib.Core.Logic.{_↔_, Iff·trans, Iff·symm}
-use mathlib.Core.Bool.{Bool, true, false, not, _&&_, true≢false, false≢true}
+use mathlib.Core.Logic.{_↔_, _⊎_, inl, inr, Iff·trans, Iff·symm}
+use mathlib.Core.Bool.{Bool, true, false, not, _&&_, _||_, true≢false, false≢true}
 use borrow.Author.Tests.{not-true, eqb-true, eq-eqb, ltb-true, lt-ltb, leb-true, le-leb}
 use lib.Dec.{eqb, ltb, leb}
 use lib.IntN.{ℤ, pos, negsuc}
@@ -37,6 +37,10 @@ module _ {P : Type 0} where
 pub test-and : {P Q : Type 0} (a b : Bool) → ((a ≡ true) ↔ P) → ((b ≡ true) ↔ Q) → ((a && b ≡ true) ↔ (P × Q))
 test-and true b p q = (λ e. (p .0 refl, q .0 e), λ both. q .1 (both .1))
 test-and false b p q = (λ e. absurd (false≢true e), λ both. absurd (false≢true (p .1 (both .0))))
+
+pub test-or : {P Q : Type 0} (a b : Bool) → ((a ≡ true) ↔ P) → ((b ≡ true) ↔ Q) → ((a || b ≡ true) ↔ (P ⊎ Q))
+test-or true b p q = (λ _. inl (p .0 refl), λ _. refl)
+test-or false b p q = (λ e. inr (q .0 e), λ either. elim either [ inl x ↦ absurd (false≢true (p .1 x)) | inr y ↦ q .1 y ])
 
 pub test-eqb : (a b : ℕ) → (eqb a b ≡ true) ↔ (a ≡ b)
 test-eqb a b = (eqb-true a b, eq-eqb a b)

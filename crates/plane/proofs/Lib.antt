@@ -6,3 +6,4 @@ pub mod Range
 pub mod Tests
 pub mod Points
 pub mod Foot
+pub mod DirectionLaws

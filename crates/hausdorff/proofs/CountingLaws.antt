@@ -1,0 +1,182 @@
+-- When a corner counts, told from its nearest feature.
+--     counted-iff    it counts exactly where its nearest feature is the other support corner, a neighbour of that, or an edge at it
+-- A point that lies on an edge is one of its ends or strictly between them, and a point is one feature only.
+use Prim.Native.Nat.{ℕ, _<_}
+use mathlib.Core.Path.{_≡_, refl, sym, subst}
+use mathlib.Core.Logic.{_↔_, _⊎_, inl, inr, Iff·trans}
+use mathlib.Core.Bool.{true, _&&_}
+use mathlib.Core.List.{List, [], _∷_, _++_}
+use native.Mathlib.Omega.{arith}
+use lib.IntN.{pos, negsuc}
+use lib.ListN.{length}
+use lib.Signed.{_≤ℤ_, _<ℤ_, ≤ℤ-refl}
+use Rattle.integers.proofs.Polynomial.{lit}
+use Rattle.integers.proofs.Certificate.{_≺_, _≼_, _≗_, hyp, eqn, _⊞_, _⊠_, prove}
+use Rattle.integers.proofs.Order.{≤ℤ-or-<ℤ, <ℤ-≤ℤ}
+use Rattle.integers.proofs.Reflect.{test-and, test-or, test-eqZ, test-leZ}
+use Rattle.plane.specs.declared.Corner.{Corner}
+use Rattle.plane.specs.declared.Point.{Point}
+use Rattle.plane.specs.declared.Vector.{Vector}
+use Rattle.plane.specs.Point.{whole, _⇢_, Same}
+use Rattle.plane.specs.Vector.{_⇀_, cross, dot, coordinates}
+use Rattle.plane.proofs.Algebra.{O, vec, crossE, dotE, _⇀E_, components, side-start, side-stop, dot-self, dot-swap}
+use Rattle.plane.proofs.Points.{pt, wholeE, _⇢E_, numbers, whole-⇢, dot-self-0, same-refl, same-sym, not-apart}
+use Rattle.outline.specs.Convex.{Polygon}
+use Rattle.outline.specs.Corners.{corner, next, previous}
+use Rattle.outline.proofs.CornersLaws.{next-below, previous-below, next-previous, previous-next}
+use Rattle.nearest.specs.declared.Feature.{Feature}
+use Rattle.nearest.specs.declared.Feature.the-variants.{Within, Corner as AtCorner, Edge as OnEdge}
+use Rattle.nearest.specs.declared.NearestPoint.{NearestPoint}
+use Rattle.nearest.specs.Feature.{values}
+use Rattle.nearest.specs.Piece.{edge, sideOf, Outside, isOutside}
+use Rattle.nearest.specs.Local.{Tested, feature}
+use Rattle.nearest.specs.Nearest.{Fits, Between, Answers}
+use Rattle.nearest.proofs.AnswerLaws.{feature-tested, tested-answers}
+use Rattle.nearest.proofs.FitsLaws.{fits-unique}
+use Rattle.nearest.proofs.LocalLaws.{length-above-0}
+use Rattle.nearest.proofs.PieceLaws.{outside-test}
+use Rattle.hausdorff.specs.Counting.{isPoint, liesOn, meetsAt, isCounted}
+use Rattle.hausdorff.proofs.Extreme.{Touches}
+
+-- ---- what the tests say
+
+-- on the edge's line, not before its start and not after its end
+record LiesOn (cs : List Corner) (i : ℕ) (y : Point) : Type 0 where
+  on-line : sideOf cs i y ≡ pos 0
+  from-start : pos 0 ≤ℤ dot (edge cs i) (whole (corner cs i) ⇢ y)
+  to-end : pos 0 ≤ℤ dot (edge cs i) (y ⇢ whole (corner cs (next (length cs) i)))
+
+-- the point is corner b or lies on one of the two edges that meet there
+abbrev Meets : List Corner → ℕ → Point → Type 0
+Meets cs b y = (Same y (whole (corner cs b)) ⊎ LiesOn cs (previous (length cs) b) y) ⊎ LiesOn cs b y
+
+point-test : (y z : Point) → (isPoint y z ≡ true) ↔ Same y z
+point-test y z = Iff·trans (test-and _ _ (test-eqZ _ _) (test-eqZ _ _)) (
+  λ (x, y). record { same-x = x; same-y = y },
+  λ same. (same .same-x, same .same-y),
+)
+
+lies-test : (cs : List Corner) (i : ℕ) (y : Point) → (liesOn cs i y ≡ true) ↔ LiesOn cs i y
+lies-test cs i y = Iff·trans (test-and _ _ (test-and _ _ (test-eqZ _ _) (test-leZ _ _)) (test-leZ _ _)) (
+  λ ((line, start), end). record { on-line = line; from-start = start; to-end = end },
+  λ lies. ((lies .on-line, lies .from-start), lies .to-end),
+)
+
+meets-test : (cs : List Corner) (b : ℕ) (y : Point) → (meetsAt cs b y ≡ true) ↔ Meets cs b y
+unfolding meetsAt
+meets-test cs b y = test-or _ _ (test-or _ _ (point-test y (whole (corner cs b))) (lies-test cs _ y)) (lies-test cs b y)
+
+-- ---- the ends of an edge
+
+-- points whose difference d is both parallel and square to e are the same, since |e|² |d|² = cross² + dot²
+no-part : (e : Vector) (y z : Point) → pos 0 <ℤ dot e e → cross e (y ⇢ z) ≡ pos 0
+    → pos 0 ≤ℤ dot e (y ⇢ z) → dot e (y ⇢ z) ≤ℤ pos 0 → Same y z
+unfolding cross dot
+no-part e y z long line up down =
+    let e' = vec 0 in let d' = vec 2 in
+    not-apart y z (prove (components (e ∷ (y ⇢ z) ∷ []))
+    (O ≺ dotE e' e' ∷ crossE e' d' ≗ O ∷ O ≼ dotE e' d' ∷ dotE e' d' ≼ O ∷ []) (dotE d' d' ≼ O)
+    (hyp 0 ⊠ hyp 1 ⊞ eqn 2 (crossE e' d') ⊞ hyp 3 ⊠ hyp 4) tt long line up down)
+
+-- the edge's end seen from a point on its line
+line-back : (p q : Corner) (y : Point) → cross (p ⇀ q) (whole p ⇢ y) ≡ pos 0 → cross (p ⇀ q) (y ⇢ whole q) ≡ pos 0
+unfolding cross _⇀_ _⇢_
+line-back p q y =
+    let p' = vec 0 in let q' = vec 2 in let y' = pt 4 in let e' = p' ⇀E q' in
+    prove (coordinates (p ∷ q ∷ []) ++ numbers (y ∷ [])) (crossE e' (wholeE p' ⇢E y') ≗ O ∷ []) (crossE e' (y' ⇢E wholeE q') ≗ O)
+    (hyp 0 ⊞ eqn 1 (lit (negsuc 0))) tt
+
+-- both ends of an edge lie on it
+module _ (cs : List Corner) (i : ℕ) where
+  abbrev p : Corner
+  p = corner cs i
+
+  abbrev q : Corner
+  q = corner cs (next (length cs) i)
+
+  at-0 : (z : Point) → pos 0 ≤ℤ dot (edge cs i) (z ⇢ z)
+  at-0 z = rw (dot-swap (edge cs i) (z ⇢ z), dot-self-0 z (edge cs i)) (≤ℤ-refl (pos 0))
+
+  along : pos 0 ≤ℤ dot (edge cs i) (whole p ⇢ whole q)
+  along = rw (whole-⇢ p q) (dot-self (edge cs i))
+
+  start-lies : LiesOn cs i (whole p)
+  start-lies = record { on-line = rw (whole-⇢ p p) (side-start p q); from-start = at-0 (whole p); to-end = along }
+
+  end-lies : LiesOn cs i (whole q)
+  end-lies = record { on-line = rw (whole-⇢ p q) (side-stop p q); from-start = along; to-end = at-0 (whole q) }
+
+-- and so does a point strictly between them
+between-lies : {cs : List Corner} {i : ℕ} {y : Point} → Between cs i y → LiesOn cs i y
+between-lies is = record { on-line = is .on-line; from-start = <ℤ-≤ℤ (is .after-start); to-end = <ℤ-≤ℤ (is .before-end) }
+
+-- ---- the nearest feature
+
+module _ {cs : List Corner} (polygon : Polygon cs) where
+  -- what holds of a feature that the point of an answer fits holds of the answer's, where v is outside the piece
+  module _ {v : Corner} {a : NearestPoint} (is : Answers cs v a) (outside : Outside cs (whole v)) (P : Feature → Type 0) where
+    fitting : (f : Feature) → Fits cs (whole v) (a .point) f → P f → P (a .feature)
+    fitting f fits =
+        let proper = is .nearest .in-piece .proper in
+        subst P (sym (fits-unique polygon (whole v) (a .feature) f proper proper (same-refl (a .point)) (is .fits) fits))
+
+    -- a point of edge i is its start, its end, or strictly between
+    lying : (i : ℕ) → i < length cs → LiesOn cs i (a .point)
+        → P (AtCorner i) → P (AtCorner (next (length cs) i)) → P (OnEdge i) → P (a .feature)
+    lying i below lies start end between =
+        let y = a .point in let e = edge cs i in let p = corner cs i in let j = next (length cs) i in let q = corner cs j in
+        let long = length-above-0 polygon v i below in let known = next-below (length cs) i (omega arith) in
+        elim (≤ℤ-or-<ℤ (dot e (whole p ⇢ y)) (pos 0)) [
+          | inl first ↦ fitting (AtCorner i)
+              (outside, below, same-sym (no-part e (whole p) y long (lies .on-line) (lies .from-start) first)) start
+          | inr after ↦ elim (≤ℤ-or-<ℤ (dot e (y ⇢ whole q)) (pos 0)) [
+            | inl last ↦ fitting (AtCorner j)
+                (outside, known, no-part e y (whole q) long (line-back p q y (lies .on-line)) (lies .to-end) last) end
+            | inr before ↦ fitting (OnEdge i)
+                (outside, below, record { on-line = lies .on-line; after-start = after; before-end = before }) between
+          ]
+        ]
+
+  module _ (b : ℕ) (below : b < length cs) where
+    abbrev n : ℕ
+    n = length cs
+
+    -- a nearest point that meets corner b is of a feature that touches it
+    meets-touches : {v : Corner} {a : NearestPoint} → Answers cs v a → Outside cs (whole v)
+        → Meets cs b (a .point) → Touches n b (a .feature)
+    meets-touches is outside (inl (inl same)) = fitting is outside (Touches n b) (AtCorner b) (outside, below, same) (inl refl)
+    meets-touches is outside (inl (inr lies)) =
+        let into = next-previous n b below in
+        lying is outside (Touches n b) (previous n b) (previous-below n b below) lies (inr (inr into)) (inl into) (inr into)
+    meets-touches is outside (inr lies) = lying is outside (Touches n b) b below lies (inl refl) (inr (inl refl)) (inl refl)
+
+    -- and back: a point of an edge at corner b meets it
+    edge-meets : (i : ℕ) {y : Point} → i < n → LiesOn cs i y → Touches n b (OnEdge i) → Meets cs b y
+    edge-meets i known lies (inl e) = inr (rw (← e) lies)
+    edge-meets i known lies (inr e) = inl (inr (rw (← e, previous-next n i known) lies))
+
+    -- and so does the corner itself and each neighbour, which ends such an edge
+    corner-meets : (i : ℕ) → i < n → Touches n b (AtCorner i) → Meets cs b (whole (corner cs i))
+    corner-meets i known (inl e) = edge-meets i known (start-lies cs i) (inl e)
+    corner-meets i known (inr (inl e)) = inr (rw e (end-lies cs b))
+    corner-meets i known (inr (inr e)) = edge-meets i known (start-lies cs i) (inr e)
+
+    module _ (v : Corner) where
+      -- both ways, by the meaning of the tests
+      answer-counted : {a : NearestPoint} → Answers cs v a → (Touches n b (a .feature) → Outside cs (whole v) × Meets cs b (a .point))
+          → (isOutside cs v && meetsAt cs b (a .point) ≡ true) ↔ Touches n b (a .feature)
+      answer-counted {a} is back = Iff·trans (test-and _ _ (outside-test cs v) (meets-test cs b (a .point)))
+          (λ (outside, meets). meets-touches is outside meets, back)
+
+      tested-counted : (f : Feature) → Tested cs v f → (isOutside cs v && meetsAt cs b (values cs v f .point) ≡ true) ↔ Touches n b f
+      tested-counted Within holds = answer-counted (tested-answers polygon v Within holds) (λ none. absurd none)
+      tested-counted (AtCorner i) holds =
+          let is = tested-answers polygon v (AtCorner i) holds in let (outside, known, here) = is .fits in
+          answer-counted is (λ touches. (outside, corner-meets i known touches))
+      tested-counted (OnEdge i) holds =
+          let is = tested-answers polygon v (OnEdge i) holds in let (outside, known, between) = is .fits in
+          answer-counted is (λ touches. (outside, edge-meets i known (between-lies between) touches))
+
+  pub counted-iff : (b : ℕ) → b < length cs → (v : Corner) → (isCounted cs b v ≡ true) ↔ Touches (length cs) b (feature cs v)
+  unfolding isCounted
+  counted-iff b below v = tested-counted b below v (feature cs v) (feature-tested cs v)

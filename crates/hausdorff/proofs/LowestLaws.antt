@@ -1,0 +1,121 @@
+-- Where the sweep begins.
+--     LowestLeftmost    a corner is the lowest, of several the leftmost
+--     begins-lowest     before step 1 the support corner of an outline is its lowest, then leftmost corner
+use Prim.Native.Nat.{ℕ, _<_}
+use mathlib.Core.Path.{_≡_, refl, sym, _∙_}
+use mathlib.Core.Logic.{_⊎_, inl, inr, _↔_, _≢_}
+use mathlib.Core.Bool.{Bool, true, false, false≢true}
+use mathlib.Core.List.{List, [], _∷_, List·Memᴰ, List·Memᴰ·head, List·Memᴰ·not-nil, List·Memᴰ·cases-cons, Pairwise, rel-of-pairwise-cons}
+use native.Mathlib.Omega.{arith}
+use lib.IntN.{pos}
+use lib.ListN.{length}
+use lib.Signed.{_≤ℤ_, _<ℤ_, ≤ℤ-refl}
+use Rattle.integers.proofs.Order.{≤ℤ-or-<ℤ, ≤ℤ-ltZ, <ℤ-≤ℤ, ≤ℤ-antisym}
+use Rattle.integers.proofs.Polynomial.{var, ⊝_}
+use Rattle.integers.proofs.Certificate.{_≺_, _≼_, _≗_, hyp, eqn, _⊞_, _⊠_, prove}
+use Rattle.plane.specs.declared.Corner.{Corner}
+use Rattle.plane.specs.declared.Vector.{Vector}
+use Rattle.plane.specs.Direction.{isFirstHalf, isBefore, byHalves}
+use Rattle.plane.specs.Vector.{_⇀_, cross, side, coordinates}
+use Rattle.plane.proofs.Algebra.{O, vec, crossE, _⇀E_, sideE, components}
+use Rattle.outline.specs.Convex.{Polygon}
+use Rattle.outline.specs.Corners.{corner, next, previous}
+use Rattle.outline.proofs.CornersLaws.{next-below, next-other, previous-below, next-previous}
+use Rattle.nearest.specs.Piece.{edge}
+use Rattle.nearest.proofs.Support.{not-right}
+use Rattle.hausdorff.specs.declared.Side.{Side}
+use Rattle.hausdorff.specs.Pair.{Pair, Polygons}
+use Rattle.hausdorff.specs.AngularOrder.{angularOrder, own, headOr}
+use Rattle.hausdorff.specs.Sweep.{begin}
+use Rattle.plane.proofs.DirectionLaws.{Before, NonZero}
+use Rattle.hausdorff.proofs.GoesRound.{Up, upward, half-up, turns, polygon-goes-round}
+use Rattle.hausdorff.proofs.OrderLaws.{own-members, own-rising}
+
+pub record LowestLeftmost (cs : List Corner) (i : ℕ) : Type 0 where
+  pub known : i < length cs
+  pub lowest : (j : ℕ) → j < length cs
+      → (corner cs i .y <ℤ corner cs j .y) ⊎ ((corner cs i .y ≡ corner cs j .y) × (corner cs i .x ≤ℤ corner cs j .x))
+
+-- a turn left to a direction that comes before leads from the second half to the first: e falls and f does not
+falls : (e f : Vector) → NonZero e → NonZero f → pos 0 <ℤ cross e f → Before f e → (e .y <ℤ pos 0) × (pos 0 ≤ℤ f .y)
+unfolding isBefore cross
+falls e f e-some f-some turn before =
+    let not-left = prove (components (e ∷ f ∷ [])) (O ≺ crossE (vec 0) (vec 2) ∷ []) (crossE (vec 2) (vec 0) ≼ O) (hyp 0 ⊞ hyp 1) tt turn in
+    by-halves (isFirstHalf f) (isFirstHalf e) (half-up f f-some) (half-up e e-some) (rw (≤ℤ-ltZ not-left) at before)
+  where
+    rising : Up f → pos 0 ≤ℤ f .y
+    rising (inl up) = <ℤ-≤ℤ up
+    rising (inr (level, _)) = rw level (≤ℤ-refl (pos 0))
+
+    -- if e were level, f would be right of it
+    falling : Up (upward false e) → pos 0 ≤ℤ f .y → e .y <ℤ pos 0
+    falling (inl down) _ = prove (e .y ∷ []) (O ≺ ⊝ var 0 ∷ []) (var 0 ≺ O) (hyp 0 ⊞ hyp 1) tt down
+    falling (inr (level, left)) up =
+        let e' = vec 0 in let f' = vec 2 in
+        prove (components (e ∷ f ∷ [])) (O ≺ crossE e' f' ∷ O ≼ f' .y ∷ ⊝ e' .y ≗ O ∷ O ≺ ⊝ e' .x ∷ []) (e' .y ≺ O)
+        (hyp 1 ⊞ hyp 2 ⊠ hyp 4 ⊞ eqn 3 (f' .x)) tt turn up level left
+
+    by-halves : (s t : Bool) → Up (upward s f) → Up (upward t e) → byHalves s t false ≡ true → (e .y <ℤ pos 0) × (pos 0 ≤ℤ f .y)
+    by-halves true false a b _ = (falling b (rising a), rising a)
+    by-halves true true _ _ never = absurd (false≢true never)
+    by-halves false true _ _ never = absurd (false≢true never)
+    by-halves false false _ _ never = absurd (false≢true never)
+
+-- an edge falls from p to c and the next, from c to r, does not: a point right of neither is above c, or level with it and not left of it
+lowest-between : (p c r v : Corner) → pos 0 <ℤ cross (p ⇀ c) (c ⇀ r) → (p ⇀ c) .y <ℤ pos 0 → pos 0 ≤ℤ (c ⇀ r) .y
+    → pos 0 ≤ℤ side p c v → pos 0 ≤ℤ side c r v → (c .y <ℤ v .y) ⊎ ((c .y ≡ v .y) × (c .x ≤ℤ v .x))
+unfolding cross _⇀_
+lowest-between p c r v turn down up left-p left-r =
+    let p' = vec 0 in let c' = vec 2 in let r' = vec 4 in let v' = vec 6 in let e = p' ⇀E c' in
+    let not-below : c .y ≤ℤ v .y = prove (coordinates (p ∷ c ∷ r ∷ v ∷ []))
+    (O ≺ crossE e (c' ⇀E r') ∷ e .y ≺ O ∷ O ≼ (c' ⇀E r') .y ∷ O ≼ sideE p' c' v' ∷ O ≼ sideE c' r' v' ∷ []) (c' .y ≼ v' .y)
+    (hyp 0 ⊠ hyp 1 ⊞ hyp 2 ⊠ hyp 5 ⊞ hyp 3 ⊠ hyp 4) tt turn down up left-p left-r in
+    elim (≤ℤ-or-<ℤ (v .y) (c .y)) [
+      | inl not-above ↦
+          let level = ≤ℤ-antisym not-below not-above in
+          inr (
+            level,
+            prove (coordinates (p ∷ c ∷ r ∷ v ∷ [])) (e .y ≺ O ∷ O ≼ sideE p' c' v' ∷ c' .y ≗ v' .y ∷ []) (c' .x ≼ v' .x)
+                (hyp 0 ⊠ hyp 1 ⊞ hyp 2 ⊞ eqn 3 (⊝ e .x)) tt down left-p level,
+          )
+      | inr above ↦ inl above
+    ]
+
+-- so it is at the corner between an edge and a next one that comes before it
+first-lowest : {cs : List Corner} → Polygon cs → (i : ℕ) → i < length cs → Before (edge cs (next (length cs) i)) (edge cs i)
+    → LowestLeftmost cs (next (length cs) i)
+first-lowest {cs} polygon i below before =
+    let n = length cs in
+    let known = next-below n i (omega arith) in
+    let some = polygon-goes-round polygon .nonzero in
+    let (down, up) = falls _ _ (some i below) (some (next n i) known) (turns polygon i below) before in
+    record {
+      known = known;
+      lowest = λ j j-known. lowest-between _ _ _ _ (turns polygon i below) down up
+          (not-right polygon i j below j-known) (not-right polygon (next n i) j known j-known);
+    }
+
+-- the first of the numbers below n, arranged by R, has R to each of the others
+head-first : (n : ℕ) (R : ℕ → ℕ → Type 0) (l : List ℕ) → 0 < n → ((i : ℕ) → List·Memᴰ i l ↔ (i < n)) → Pairwise R l
+    → (headOr 0 l < n) × ((i : ℕ) → i < n → i ≢ headOr 0 l → R (headOr 0 l) i)
+head-first n R [] some members rising = absurd (List·Memᴰ·not-nil (members 0 .1 some))
+head-first n R (z ∷ l) some members rising = (
+  members z .0 (List·Memᴰ·head refl),
+  λ i below other. elim (List·Memᴰ·cases-cons (members i .1 below)) [
+    | inl e ↦ absurd (other e)
+    | inr later ↦ rel-of-pairwise-cons rising ∣ later ∣₁
+  ],
+)
+
+-- the first edge comes before the one that ends where it starts
+pub begins-lowest : (pair : Pair) → Polygons pair → (s : Side) → LowestLeftmost (pair s) (begin pair .support s)
+unfolding begin
+begins-lowest pair polygons s =
+    let n = length (pair s) in
+    let three = polygons s .at-least in
+    let (below, first) = head-first n _ _ (omega arith) (own-members pair s) (own-rising pair (λ t. polygon-goes-round (polygons t)) s) in
+    let w = previous n (headOr 0 (own s (angularOrder pair))) in
+    let known = previous-below n _ below in
+    let into = next-previous n _ below in
+    let before = first w known (λ e. next-other n w (omega arith) (into ∙ sym e)) in
+    rw into at (first-lowest (polygons s) w known (rw into (rw into at before)))

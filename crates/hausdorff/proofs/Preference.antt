@@ -1,0 +1,127 @@
+-- Which of two corners of a side is the worse.
+--     Preferred                           its gap is greater, or equal and its shown number not higher
+--     preferred-refl, preferred-trans     it is a preorder, on gaps with a lower number above 0
+--     taken-preferred                     what `takesPlace` takes is preferred over what it leaves
+--     Foremost, foremost                  a number below n that is preferred over all below n; there is one, unless n is 0
+--     gap-positive                        the gap of a corner has a lower number above 0
+--     least-iff                           a gap is not greater than that of a corner within exactly where its own corner is within
+use Prim.Native.Nat.{ℕ, zero, suc, _<_, _≤_}
+use mathlib.Core.Path.{_≡_, refl}
+use mathlib.Core.Logic.{_↔_, inl, inr, Iff·trans}
+use mathlib.Core.Bool.{Bool, true, false, cond, not, _&&_, _||_}
+use native.Mathlib.Decide.{ℕ-discrete}
+use native.Mathlib.Nat.{zero-mul, mul-pos, eq-zero-or-pos}
+use native.Mathlib.Omega.{arith}
+use borrow.Author.Tests.{ltb-true, ltb-false}
+use lib.Dec.{ltb, ltb→lt}
+use Rattle.integers.specs.declared.fraction.Fraction.{Fraction}
+use Rattle.integers.specs.Fraction.{isLess, NotGreater}
+use Rattle.plane.specs.Point.{whole}
+use Rattle.outline.specs.Corners.{corner}
+use Rattle.nearest.specs.Piece.{InPiece}
+use Rattle.nearest.proofs.AnswerLaws.{nearest-distance, gap-zero-iff}
+use Rattle.hausdorff.specs.declared.Side.{Side}
+use Rattle.hausdorff.specs.declared.Worst.{Worst}
+use Rattle.hausdorff.specs.Pair.{Pair, other, Polygons}
+use Rattle.hausdorff.specs.Worst.{gapOf, takesPlace}
+use Rattle.integers.proofs.FractionOrder.{notGreater-refl, notGreater-trans, isLess-true, isLess-false, less-notGreater}
+
+pub record Preferred (shown : ℕ → ℕ) (w z : Worst) : Type 0 where
+  pub not-less : NotGreater (z .gap) (w .gap)
+  pub first : NotGreater (w .gap) (z .gap) → shown (w .corner) ≤ shown (z .corner)
+
+pub record Foremost (shown : ℕ → ℕ) (f : ℕ → Worst) (n : ℕ) : Type 0 where
+  pub place : ℕ
+  pub below : place < n
+  pub preferred : (i : ℕ) → i < n → Preferred shown (f place) (f i)
+
+module _ (shown : ℕ → ℕ) where
+  -- a corner is preferred over itself
+  pub preferred-refl : (w : Worst) → Preferred shown w w
+  preferred-refl w = record { not-less = notGreater-refl (w .gap); first = λ _. omega arith }
+
+  -- and preference is transitive
+  pub preferred-trans : (w x z : Worst) → 0 < w .gap .lower → 0 < x .gap .lower → 0 < z .gap .lower
+      → Preferred shown w x → Preferred shown x z → Preferred shown w z
+  preferred-trans w x z w-some x-some z-some p q = record {
+    not-less = notGreater-trans (z .gap) (x .gap) (w .gap) x-some (q .not-less) (p .not-less);
+    first = λ equal.
+        let a = p .first (notGreater-trans (w .gap) (z .gap) (x .gap) z-some equal (q .not-less)) in
+        let b = q .first (notGreater-trans (x .gap) (w .gap) (z .gap) w-some (p .not-less) equal) in
+        omega arith;
+  }
+
+  -- by the three tests that `takesPlace` makes
+  pub taken-preferred : (new old : Worst)
+      → Preferred shown (cond (takesPlace shown new old) new old) (cond (takesPlace shown new old) old new)
+  taken-preferred new old =
+      let n = new .gap in let o = old .gap in
+      go (isLess o n) (isLess n o) (ltb (shown (new .corner)) (shown (old .corner))) (isLess-true o n) (isLess-false o n)
+      (isLess-true n o) (isLess-false n o) refl
+    where
+      go : (s t u : Bool) → (s ≡ true → ¬ NotGreater (new .gap) (old .gap)) → (s ≡ false → NotGreater (new .gap) (old .gap))
+          → (t ≡ true → ¬ NotGreater (old .gap) (new .gap)) → (t ≡ false → NotGreater (old .gap) (new .gap))
+          → ltb (shown (new .corner)) (shown (old .corner)) ≡ u
+          → Preferred shown (cond (s || (not t && u)) new old) (cond (s || (not t && u)) old new)
+      go true t u less _ _ _ _ = record {
+        not-less = less-notGreater (old .gap) (new .gap) (less refl);
+        first = λ equal. absurd (less refl equal);
+      }
+      go false true u _ not-less greater _ _ = record { not-less = not-less refl; first = λ equal. absurd (greater refl equal) }
+      go false false true _ _ _ not-greater lower = record { not-less = not-greater refl; first = λ _. omega (arith, ltb-true) }
+      go false false false _ not-less _ _ not-lower = record { not-less = not-less refl; first = λ _. omega (arith, ltb-false) }
+
+  module _ (f : ℕ → Worst) (positive : (i : ℕ) → 0 < f i .gap .lower) where
+    -- what is preferred over all below n and over n is preferred over all below n + 1
+    one-more : (n : ℕ) (w : Worst) → ((i : ℕ) → i < n → Preferred shown w (f i)) → Preferred shown w (f n)
+        → (i : ℕ) → i < suc n → Preferred shown w (f i)
+    one-more n w earlier last i below = elim (ℕ-discrete i n) [ yes e ↦ rw e last | no other ↦ earlier i (omega arith) ]
+
+    -- by trying one more at a time
+    pub foremost : (n : ℕ) → 0 < n → Foremost shown f n
+    foremost zero some = absurd (omega arith)
+    foremost (suc zero) some =
+        record { place = 0; below = some; preferred = one-more 0 (f 0) (λ i none. absurd (omega arith)) (preferred-refl (f 0)) }
+    foremost (suc (suc n)) some =
+        let best = foremost (suc n) (omega arith) in
+        go best (takesPlace shown (f (suc n)) (f (best .place))) (taken-preferred (f (suc n)) (f (best .place)))
+      where
+        go : (best : Foremost shown f (suc n)) (t : Bool)
+            → Preferred shown (cond t (f (suc n)) (f (best .place))) (cond t (f (best .place)) (f (suc n)))
+            → Foremost shown f (suc (suc n))
+        go best true p = record {
+          place = suc n;
+          below = omega arith;
+          preferred = one-more (suc n) (f (suc n))
+              (λ i below. preferred-trans (f (suc n)) (f (best .place)) (f i) (positive (suc n)) (positive (best .place)) (positive i)
+              p (best .preferred i below))
+              (preferred-refl (f (suc n)));
+        }
+        go best false p = record {
+          place = best .place;
+          below = omega arith;
+          preferred = one-more (suc n) (f (best .place)) (best .preferred) p;
+        }
+
+-- only 0 is not greater than 0
+not-above-0 : (f g : Fraction) → 0 < g .lower → g .upper ≡ 0 → NotGreater f g ↔ (f .upper ≡ 0)
+not-above-0 f g some none = (
+  λ not-greater. elim (eq-zero-or-pos (f .upper)) [
+    | inl is ↦ is
+    | inr above ↦ absurd (omega (arith, mul-pos above some, rw (none, zero-mul) at not-greater))
+  ],
+  λ is. rw (is, zero-mul) (omega arith),
+)
+
+module _ (pair : Pair) (polygons : Polygons pair) where
+  -- a gap is a squared distance, which has such a lower number
+  pub gap-positive : (s : Side) (i : ℕ) → 0 < gapOf pair s i .gap .lower
+  gap-positive s i = let above = nearest-distance (polygons (other s)) (corner (pair s) i) .lower-positive .lt in ltb→lt 0 _ above
+
+  -- a gap that is not greater than that of a corner within is that of a corner within
+  pub least-iff : (s t : Side) (i j : ℕ) → InPiece (pair (other t)) (whole (corner (pair t) j))
+      → NotGreater (gapOf pair s i .gap) (gapOf pair t j .gap) ↔ InPiece (pair (other s)) (whole (corner (pair s) i))
+  least-iff s t i j inside = Iff·trans
+      (not-above-0 (gapOf pair s i .gap) (gapOf pair t j .gap) (gap-positive t j)
+      (gap-zero-iff (polygons (other t)) (corner (pair t) j) .1 inside))
+      (gap-zero-iff (polygons (other s)) (corner (pair s) i))
