@@ -24,10 +24,10 @@ use Rattle.nearest.specs.declared.Feature.{Feature}
 use Rattle.nearest.specs.declared.Feature.the-variants.{Within, Corner as AtCorner, Edge as OnEdge}
 use Rattle.nearest.specs.Piece.{edge}
 use Rattle.hausdorff.specs.AngularOrder.{headOr, Cyclic}
-use Rattle.plane.proofs.DirectionLaws.{Before, NonZero, before-split}
+use Rattle.plane.proofs.Halves.{NonZero}
+use Rattle.plane.proofs.DirectionLaws.{Before, Along, Apart, before?, along?, before-split, along-apart, Around, around-start, around-end}
 use Rattle.hausdorff.proofs.GoesRound.{GoesRound}
 use Rattle.hausdorff.proofs.Extreme.{ExtremeFeature, Touches}
-use Rattle.hausdorff.proofs.ExtremeLaws.{Along, Apart, before?, along?, along-apart, Around, around-start, around-end}
 use Rattle.hausdorff.proofs.ExtremeLaws.{turned, turned-some, corner-around, edge-along}
 
 pub record Cut : Type 1 where
@@ -179,7 +179,7 @@ module _ {n : ℕ} {d : ℕ → Vector} (round : GoesRound n d) (i : ℕ) (below
     pub strict-support : CutAt n d (strict t) front rest → Apart (d (previous n i)) t → supportAt front rest ≡ i
     strict-support here apart = support-turn here
         (λ rising. let (not-after, not-before) = around .rising rising in (certain not-after, not-before))
-        (λ wraps. ⊎-elim (λ not-after. inl (certain not-after)) inr (around .falling wraps))
+        (λ wraps. ⊎-elim (λ not-after. inl (certain not-after)) inr (around .inside))
       where
         certain : ¬ Before t (d (previous n i)) → Before (d (previous n i)) t
         certain not-after = ⊎-elim (λ h. h) (λ h. absurd (not-after h)) apart
@@ -187,7 +187,7 @@ module _ {n : ℕ} {d : ℕ → Vector} (round : GoesRound n d) (i : ℕ) (below
     pub weak-support : CutAt n d (weak t) front rest → Apart (d i) t → supportAt front rest ≡ i
     weak-support here apart = support-turn here
         (λ rising. let (not-after, not-before) = around .rising rising in (not-after, certain not-before))
-        (λ wraps. ⊎-elim inl (λ not-before. inr (certain not-before)) (around .falling wraps))
+        (λ wraps. ⊎-elim inl (λ not-before. inr (certain not-before)) (around .inside))
       where
         certain : ¬ Before (d i) t → ¬ ¬ Before t (d i)
         certain not-before not-after = ⊎-elim not-before not-after apart

@@ -45,7 +45,7 @@ use Rattle.hausdorff.specs.Pair.{Pair, other, Polygons}
 use Rattle.hausdorff.specs.Worst.{gapOf}
 use Rattle.hausdorff.specs.Figure.{IsGap, IsAnswer}
 use Rattle.hausdorff.specs.Hausdorff.{NotBeyond, Hausdorff}
-use Rattle.plane.proofs.DirectionLaws.{NonZero}
+use Rattle.plane.proofs.Halves.{NonZero}
 use Rattle.hausdorff.proofs.Extreme.{ExtremeCorner, ExtremeFeature, corner-extreme-iff}
 use Rattle.integers.proofs.FractionOrder.{notGreater-trans}
 use Rattle.hausdorff.proofs.HalfPlane.{half-plane, not-ahead, gap-zero, not-beyond, not-nearer}

@@ -1,131 +1,45 @@
 -- The directions of an outline's edges go round once. All laws of the sweep rest on this alone.
 --     GoesRound            n directions go round once
---     Up, upward, half-up  pointing up, or level to the right; so does a vector that is not 0, turned round if it is in the second half
 --     turns                an edge of a polygon and the next turn left
 --     polygon-goes-round   the directions of a polygon go round
 --     segment-goes-round   and so do two opposite ones, those of a segment there and back
 use Prim.Native.Nat.{ℕ, zero, suc, _<_, _≤_}
-use mathlib.Core.Path.{_≡_, refl, sym}
+use mathlib.Core.Path.{_≡_, sym}
 use mathlib.Core.Logic.{_⊎_, inl, inr, ⊎-elim, _≢_}
-use mathlib.Core.Bool.{Bool, true, false, _&&_, _||_, true≢false, false≢true}
 use mathlib.Core.List.{List, [], _∷_}
 use native.Mathlib.Decide.{ℕ-discrete}
 use native.Mathlib.Omega.{arith}
-use lib.IntN.{pos, negsuc, negℤ}
+use lib.IntN.{pos}
 use lib.ListN.{length}
-use lib.Signed.{_≤ℤ_, _<ℤ_, ltZ, <ℤ-irrefl, clashℤ}
-use Rattle.integers.specs.Equal.{eqZ}
-use Rattle.integers.proofs.Order.{ltZ-true, ltZ-false, ≤ℤ-antisym, ≰ℤ-<ℤ}
-use Rattle.integers.proofs.Polynomial.{var, lit, ⊝_, _⊗_, solve}
+use lib.Signed.{_≤ℤ_, _<ℤ_, <ℤ-irrefl, clashℤ}
+use Rattle.integers.proofs.Order.{≰ℤ-<ℤ}
 use Rattle.integers.proofs.Certificate.{_≺_, _≼_, _≗_, hyp, sq, eqn, _⊞_, _⊠_, prove, refute}
-use Rattle.integers.proofs.Reflect.{test-and, test-false, test-eqZ}
 use Rattle.plane.specs.declared.Corner.{Corner}
 use Rattle.plane.specs.declared.Vector.{Vector}
-use Rattle.plane.specs.Direction.{isFirstHalf, isBefore, sameHalf, sameDirection}
 use Rattle.plane.specs.Vector.{_⇀_, cross, dot, side, coordinates}
-use Rattle.plane.proofs.Algebra.{VecE, O, vec, crossE, dotE, _⇀E_, sideE, components, apart-0, cross-length}
+use Rattle.plane.proofs.Algebra.{O, vec, crossE, dotE, _⇀E_, sideE, apart-0, cross-length}
 use Rattle.outline.specs.Convex.{Polygon}
 use Rattle.outline.specs.Corners.{next}
 use Rattle.outline.proofs.CornersLaws.{next-below, next-other, previous-next}
 use Rattle.nearest.specs.Piece.{edge}
 use Rattle.nearest.proofs.Support.{not-right, turns-left}
-use Rattle.plane.proofs.DirectionLaws.{Before, NonZero, before-asym, same-iff, cross-between, cross-first, cross-last}
+use Rattle.plane.proofs.Halves.{NonZero}
+use Rattle.plane.proofs.DirectionLaws.{Before, Along, Apart, along?, along-iff, before-asym, cross-between, cross-first, cross-last}
 
 pub record GoesRound (n : ℕ) (d : ℕ → Vector) : Type 0 where
   pub at-least : 2 ≤ n
   pub nonzero : (i : ℕ) → i < n → NonZero (d i)
   -- different edges have different directions
-  pub distinct : (i j : ℕ) → i < n → j < n → i ≢ j → Before (d i) (d j) ⊎ Before (d j) (d i)
+  pub distinct : (i j : ℕ) → i < n → j < n → i ≢ j → Apart (d i) (d j)
   -- none lies strictly between an edge and the next
   pub none-between : (i j : ℕ) → i < n → j < n → Before (d i) (d j) → ¬ Before (d j) (d (next n i))
   -- where the next comes before, it is the first and this the last
   pub next-first : (i j : ℕ) → i < n → j < n → Before (d (next n i)) (d i) → ¬ Before (d j) (d (next n i))
   pub this-last : (i j : ℕ) → i < n → j < n → Before (d (next n i)) (d i) → ¬ Before (d i) (d j)
 
--- ---- vectors of one direction
-
--- upwards, or level to the right
-abbrev pub Up : Vector → Type 0
-Up d = (pos 0 <ℤ d .y) ⊎ ((d .y ≡ pos 0) × (pos 0 <ℤ d .x))
-
--- a vector of the first half as it is, one of the second half turned round
-abbrev pub upward : Bool → Vector → Vector
-upward true d = d
-upward false d = record { x = negℤ (d .x); y = negℤ (d .y) }
-
--- of a vector that is not 0 the test of halves tells which of the two it is
-pub half-up : (d : Vector) → NonZero d → Up (upward (isFirstHalf d) d)
-unfolding isFirstHalf dot
-half-up d some = by-tests (ltZ (pos 0) (d .y)) (eqZ (d .y) (pos 0)) (ltZ (pos 0) (d .x)) refl refl refl
-  where
-    by-tests : (a b c : Bool) → ltZ (pos 0) (d .y) ≡ a → eqZ (d .y) (pos 0) ≡ b → ltZ (pos 0) (d .x) ≡ c → Up (upward (a || (b && c)) d)
-    by-tests true b c up _ _ = inl (ltZ-true up)
-    by-tests false true true _ level right = inr (test-eqZ (d .y) (pos 0) .0 level, ltZ-true right)
-    by-tests false true false _ level not-right =
-        let x = vec 0 .x in let y = vec 0 .y in let flat = test-eqZ (d .y) (pos 0) .0 level in
-        inr (
-          rw flat,
-          prove (components (d ∷ [])) (y ≗ O ∷ x ≼ O ∷ O ≺ dotE (vec 0) (vec 0) ∷ []) (O ≺ ⊝ x)
-              (hyp 3 ⊞ hyp 0 ⊠ hyp 2 ⊞ eqn 1 y) tt flat (ltZ-false not-right) some,
-        )
-    by-tests false false c not-up not-level _ =
-        inl (prove (d .y ∷ []) (var 0 ≺ O ∷ []) (O ≺ ⊝ var 0) (hyp 0 ⊞ hyp 1) tt
-        (≰ℤ-<ℤ (λ h. test-false _ (test-eqZ (d .y) (pos 0)) .0 not-level (≤ℤ-antisym (ltZ-false not-up) h))))
-
--- vectors along one line that both point up or level to the right point the same way
-up-along : (d e : Vector) → Up d → Up e → cross d e ≡ pos 0 → pos 0 <ℤ dot d e
-unfolding cross dot
-up-along d e (inl a) (inl b) =
-    let d' = vec 0 in let e' = vec 2 in
-    prove (components (d ∷ e ∷ [])) (O ≺ d' .y ∷ O ≺ e' .y ∷ crossE d' e' ≗ O ∷ []) (O ≺ dotE d' e')
-    (hyp 0 ⊠ hyp 1 ⊠ hyp 2 ⊞ hyp 1 ⊠ hyp 1 ⊠ hyp 2 ⊠ hyp 2 ⊞ sq (d' .x ⊗ e' .y) ⊞ eqn 3 (d' .x ⊗ e' .y)) tt a b
-up-along d e (inl a) (inr (level, b)) =
-    let d' = vec 0 in let e' = vec 2 in
-    prove (components (d ∷ e ∷ [])) (O ≺ d' .y ∷ e' .y ≗ O ∷ O ≺ e' .x ∷ crossE d' e' ≗ O ∷ []) (O ≺ dotE d' e')
-    (hyp 1 ⊠ hyp 3 ⊞ eqn 2 (d' .x) ⊞ eqn 4 (lit (negsuc 0))) tt a level b
-up-along d e (inr (level, a)) (inl b) =
-    let d' = vec 0 in let e' = vec 2 in
-    prove (components (d ∷ e ∷ [])) (d' .y ≗ O ∷ O ≺ d' .x ∷ O ≺ e' .y ∷ crossE d' e' ≗ O ∷ []) (O ≺ dotE d' e')
-    (hyp 2 ⊠ hyp 3 ⊞ eqn 1 (e' .x) ⊞ eqn 4 (lit (pos 1))) tt level a b
-up-along d e (inr (level, a)) (inr (_, b)) =
-    let d' = vec 0 in let e' = vec 2 in
-    prove (components (d ∷ e ∷ [])) (d' .y ≗ O ∷ O ≺ d' .x ∷ O ≺ e' .x ∷ crossE d' e' ≗ O ∷ []) (O ≺ dotE d' e')
-    (hyp 0 ⊞ hyp 2 ⊠ hyp 3 ⊞ eqn 1 (⊝ e' .y)) tt level a b
-
-abbrev turnedE : VecE → VecE
-turnedE d = record { x = ⊝ d .x; y = ⊝ d .y }
-
--- turning both round changes nothing
-turned-cross : (d e : Vector) → cross (upward false d) (upward false e) ≡ cross d e
-unfolding cross
-turned-cross d e = solve (components (d ∷ e ∷ [])) (crossE (turnedE (vec 0)) (turnedE (vec 2))) (crossE (vec 0) (vec 2)) tt
-
-turned-dot : (d e : Vector) → dot (upward false d) (upward false e) ≡ dot d e
-unfolding dot
-turned-dot d e = solve (components (d ∷ e ∷ [])) (dotE (turnedE (vec 0)) (turnedE (vec 2))) (dotE (vec 0) (vec 2)) tt
-
--- vectors of one direction lie along one line and point the same way
-same-along : (d e : Vector) → NonZero d → NonZero e → sameDirection d e ≡ true → (cross d e ≡ pos 0) × (pos 0 <ℤ dot d e)
-unfolding sameDirection
-same-along d e d-some e-some same =
-    let halves = sameHalf (isFirstHalf d) (isFirstHalf e) in
-    let (half, line) = test-and halves (eqZ (cross d e) (pos 0)) (λ t. t, λ t. t) (test-eqZ (cross d e) (pos 0)) .0 same in
-    (line, by-halves (isFirstHalf d) (isFirstHalf e) (half-up d d-some) (half-up e e-some) half line)
-  where
-    by-halves : (s t : Bool) → Up (upward s d) → Up (upward t e) → sameHalf s t ≡ true → cross d e ≡ pos 0 → pos 0 <ℤ dot d e
-    by-halves true true a b _ line = up-along d e a b line
-    by-halves true false _ _ never _ = absurd (false≢true never)
-    by-halves false true _ _ never _ = absurd (false≢true never)
-    by-halves false false a b _ line = rw (turned-dot d e) at (up-along _ _ a b (rw (turned-cross d e) line))
-
--- of two directions that differ one comes before the other
-other-before : (d e : Vector) → ¬ (sameDirection d e ≡ true) → Before d e ⊎ Before e d
-other-before d e other = by-tests (isBefore d e) (isBefore e d) refl refl
-  where
-    by-tests : (s t : Bool) → isBefore d e ≡ s → isBefore e d ≡ t → Before d e ⊎ Before e d
-    by-tests true t a b = inl a
-    by-tests false true a b = inr b
-    by-tests false false a b = absurd (other (same-iff d e .1 (λ h. true≢false (cc), λ h. true≢false (cc))))
+-- directions that are not the same are apart
+not-along-apart : (d e : Vector) → ¬ Along d e → Apart d e
+not-along-apart d e other = ⊎-elim (λ same. absurd (other same)) (λ apart. apart) (along? d e)
 
 -- ---- a polygon
 
@@ -171,9 +85,9 @@ module _ {cs : List Corner} (polygon : Polygon cs) where
   edge-some i below = cross-length _ _ (turns-left polygon i below)
 
   -- two edges of one direction do not turn left, so neither is the next; and of parallel ones one is right of the other
-  other-direction : (i j : ℕ) → i < length cs → j < length cs → i ≢ j → ¬ (sameDirection (edge cs i) (edge cs j) ≡ true)
-  other-direction i j below known other same =
-      let (line, along) = same-along _ _ (edge-some i below) (edge-some j known) same in
+  not-along : (i j : ℕ) → i < length cs → j < length cs → i ≢ j → ¬ Along (edge cs i) (edge cs j)
+  not-along i j below known other same =
+      let (line, along) = along-iff _ _ (edge-some i below) (edge-some j known) .0 same in
       elim (ℕ-discrete j (next (length cs) i)) [
         | yes follows ↦ let turn : pos 0 <ℤ cross (edge cs i) (edge cs j) = rw follows (turns i below) in <ℤ-irrefl (rw line at turn)
         | no farther ↦
@@ -185,7 +99,7 @@ pub polygon-goes-round : {cs : List Corner} → Polygon cs → GoesRound (length
 polygon-goes-round polygon = record {
   at-least = omega arith;
   nonzero = edge-some polygon;
-  distinct = λ i j below known other. other-before _ _ (other-direction polygon i j below known other);
+  distinct = λ i j below known other. not-along-apart _ _ (not-along polygon i j below known other);
   none-between = λ i j below known a b. consecutive polygon i j below known (cross-between _ _ _ (turns polygon i below) a b);
   next-first = λ i j below known a b. consecutive polygon i j below known (cross-first _ _ _ (turns polygon i below) a b);
   this-last = λ i j below known a b. consecutive polygon i j below known (cross-last _ _ _ (turns polygon i below) a b);
@@ -194,7 +108,7 @@ polygon-goes-round polygon = record {
 -- ---- a segment
 
 -- two directions go round if they differ: every edge is this one or the next
-two-go-round : (d : ℕ → Vector) → NonZero (d 0) → NonZero (d 1) → Before (d 0) (d 1) ⊎ Before (d 1) (d 0) → GoesRound 2 d
+two-go-round : (d : ℕ → Vector) → NonZero (d 0) → NonZero (d 1) → Apart (d 0) (d 1) → GoesRound 2 d
 unfolding next
 two-go-round d there back differ = record {
   at-least = omega arith;
@@ -214,7 +128,7 @@ two-go-round d there back differ = record {
     some (suc zero) _ = back
     some (suc (suc i)) below = absurd (omega arith)
 
-    next-differs : (i : ℕ) → i < 2 → Before (d i) (d (next 2 i)) ⊎ Before (d (next 2 i)) (d i)
+    next-differs : (i : ℕ) → i < 2 → Apart (d i) (d (next 2 i))
     next-differs zero _ = differ
     next-differs (suc zero) _ = ⊎-elim inr inl differ
     next-differs (suc (suc i)) below = absurd (omega arith)
@@ -242,4 +156,4 @@ segment-goes-round p q different =
     let there : NonZero (p ⇀ q) = ≰ℤ-<ℤ (λ none. different (apart-0 p q none)) in
     let back : NonZero (q ⇀ p) = ≰ℤ-<ℤ (λ none. different (sym (apart-0 q p none))) in
     two-go-round (edge (p ∷ q ∷ [])) there back
-    (other-before (p ⇀ q) (q ⇀ p) (λ same. there-back p q (same-along _ _ there back same .1)))
+    (not-along-apart (p ⇀ q) (q ⇀ p) (λ same. there-back p q (along-iff _ _ there back .0 same .1)))

@@ -4,18 +4,17 @@
 use Prim.Native.Nat.{ℕ, _<_}
 use mathlib.Core.Path.{_≡_, refl, sym, _∙_}
 use mathlib.Core.Logic.{_⊎_, inl, inr, _↔_, _≢_}
-use mathlib.Core.Bool.{Bool, true, false, false≢true}
+use mathlib.Core.Bool.{true, false}
 use mathlib.Core.List.{List, [], _∷_, List·Memᴰ, List·Memᴰ·head, List·Memᴰ·not-nil, List·Memᴰ·cases-cons, Pairwise, rel-of-pairwise-cons}
 use native.Mathlib.Omega.{arith}
 use lib.IntN.{pos}
 use lib.ListN.{length}
 use lib.Signed.{_≤ℤ_, _<ℤ_, ≤ℤ-refl}
-use Rattle.integers.proofs.Order.{≤ℤ-or-<ℤ, ≤ℤ-ltZ, <ℤ-≤ℤ, ≤ℤ-antisym}
-use Rattle.integers.proofs.Polynomial.{var, ⊝_}
+use Rattle.integers.proofs.Order.{≤ℤ-or-<ℤ, <ℤ-≤ℤ, ≤ℤ-antisym}
+use Rattle.integers.proofs.Polynomial.{⊝_}
 use Rattle.integers.proofs.Certificate.{_≺_, _≼_, _≗_, hyp, eqn, _⊞_, _⊠_, prove}
 use Rattle.plane.specs.declared.Corner.{Corner}
 use Rattle.plane.specs.declared.Vector.{Vector}
-use Rattle.plane.specs.Direction.{isFirstHalf, isBefore, byHalves}
 use Rattle.plane.specs.Vector.{_⇀_, cross, side, coordinates}
 use Rattle.plane.proofs.Algebra.{O, vec, crossE, _⇀E_, sideE, components}
 use Rattle.outline.specs.Convex.{Polygon}
@@ -27,8 +26,9 @@ use Rattle.hausdorff.specs.declared.Side.{Side}
 use Rattle.hausdorff.specs.Pair.{Pair, Polygons}
 use Rattle.hausdorff.specs.AngularOrder.{angularOrder, own, headOr}
 use Rattle.hausdorff.specs.Sweep.{begin}
-use Rattle.plane.proofs.DirectionLaws.{Before, NonZero}
-use Rattle.hausdorff.proofs.GoesRound.{Up, upward, half-up, turns, polygon-goes-round}
+use Rattle.plane.proofs.Halves.{Half, half}
+use Rattle.plane.proofs.DirectionLaws.{Before, across}
+use Rattle.hausdorff.proofs.GoesRound.{turns, polygon-goes-round}
 use Rattle.hausdorff.proofs.OrderLaws.{own-members, own-rising}
 
 pub record LowestLeftmost (cs : List Corner) (i : ℕ) : Type 0 where
@@ -37,29 +37,26 @@ pub record LowestLeftmost (cs : List Corner) (i : ℕ) : Type 0 where
       → (corner cs i .y <ℤ corner cs j .y) ⊎ ((corner cs i .y ≡ corner cs j .y) × (corner cs i .x ≤ℤ corner cs j .x))
 
 -- a turn left to a direction that comes before leads from the second half to the first: e falls and f does not
-falls : (e f : Vector) → NonZero e → NonZero f → pos 0 <ℤ cross e f → Before f e → (e .y <ℤ pos 0) × (pos 0 ≤ℤ f .y)
-unfolding isBefore cross
-falls e f e-some f-some turn before =
-    let not-left = prove (components (e ∷ f ∷ [])) (O ≺ crossE (vec 0) (vec 2) ∷ []) (crossE (vec 2) (vec 0) ≼ O) (hyp 0 ⊞ hyp 1) tt turn in
-    by-halves (isFirstHalf f) (isFirstHalf e) (half-up f f-some) (half-up e e-some) (rw (≤ℤ-ltZ not-left) at before)
+falls : (e f : Vector) → pos 0 <ℤ cross e f → Before f e → (e .y <ℤ pos 0) × (pos 0 ≤ℤ f .y)
+unfolding cross
+falls e f turn before =
+    let e' = vec 0 in let f' = vec 2 in
+    let (first, second) = across f e before
+    (prove (components (e ∷ f ∷ [])) (O ≺ crossE e' f' ∷ []) (crossE f' e' ≼ O) (hyp 0 ⊞ hyp 1) tt turn) in
+    let up = rising (rw first at (half f)) in
+    (falling up (rw second at (half e)), up)
   where
-    rising : Up f → pos 0 ≤ℤ f .y
+    rising : Half true f → pos 0 ≤ℤ f .y
     rising (inl up) = <ℤ-≤ℤ up
     rising (inr (level, _)) = rw level (≤ℤ-refl (pos 0))
 
     -- if e were level, f would be right of it
-    falling : Up (upward false e) → pos 0 ≤ℤ f .y → e .y <ℤ pos 0
-    falling (inl down) _ = prove (e .y ∷ []) (O ≺ ⊝ var 0 ∷ []) (var 0 ≺ O) (hyp 0 ⊞ hyp 1) tt down
-    falling (inr (level, left)) up =
+    falling : pos 0 ≤ℤ f .y → Half false e → e .y <ℤ pos 0
+    falling up (inl down) = down
+    falling up (inr (level, left)) =
         let e' = vec 0 in let f' = vec 2 in
-        prove (components (e ∷ f ∷ [])) (O ≺ crossE e' f' ∷ O ≼ f' .y ∷ ⊝ e' .y ≗ O ∷ O ≺ ⊝ e' .x ∷ []) (e' .y ≺ O)
-        (hyp 1 ⊞ hyp 2 ⊠ hyp 4 ⊞ eqn 3 (f' .x)) tt turn up level left
-
-    by-halves : (s t : Bool) → Up (upward s f) → Up (upward t e) → byHalves s t false ≡ true → (e .y <ℤ pos 0) × (pos 0 ≤ℤ f .y)
-    by-halves true false a b _ = (falling b (rising a), rising a)
-    by-halves true true _ _ never = absurd (false≢true never)
-    by-halves false true _ _ never = absurd (false≢true never)
-    by-halves false false _ _ never = absurd (false≢true never)
+        prove (components (e ∷ f ∷ [])) (O ≺ crossE e' f' ∷ O ≼ f' .y ∷ e' .y ≗ O ∷ e' .x ≼ O ∷ []) (e' .y ≺ O)
+        (hyp 1 ⊞ hyp 2 ⊠ hyp 4 ⊞ eqn 3 (⊝ f' .x)) tt turn up level left
 
 -- an edge falls from p to c and the next, from c to r, does not: a point right of neither is above c, or level with it and not left of it
 lowest-between : (p c r v : Corner) → pos 0 <ℤ cross (p ⇀ c) (c ⇀ r) → (p ⇀ c) .y <ℤ pos 0 → pos 0 ≤ℤ (c ⇀ r) .y
@@ -87,8 +84,7 @@ first-lowest : {cs : List Corner} → Polygon cs → (i : ℕ) → i < length cs
 first-lowest {cs} polygon i below before =
     let n = length cs in
     let known = next-below n i (omega arith) in
-    let some = polygon-goes-round polygon .nonzero in
-    let (down, up) = falls _ _ (some i below) (some (next n i) known) (turns polygon i below) before in
+    let (down, up) = falls _ _ (turns polygon i below) before in
     record {
       known = known;
       lowest = λ j j-known. lowest-between _ _ _ _ (turns polygon i below) down up

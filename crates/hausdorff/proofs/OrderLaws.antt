@@ -30,7 +30,8 @@ use Rattle.hausdorff.specs.declared.Side.the-variants.{A, B}
 use Rattle.hausdorff.specs.Pair.{Pair, sameSide, stepCount}
 use Rattle.hausdorff.specs.AngularOrder.{PairEdge, direction, isAThenB, precedes, edgesBelow, allEdges, angularOrder}
 use Rattle.hausdorff.specs.AngularOrder.{ownFirst, own, headOr, Cyclic}
-use Rattle.plane.proofs.DirectionLaws.{Before, NonZero, before-asym, before-trans, before-split, same-iff}
+use Rattle.plane.proofs.Halves.{NonZero}
+use Rattle.plane.proofs.DirectionLaws.{Before, before-asym, before-trans, before-split, same-iff}
 use Rattle.hausdorff.proofs.GoesRound.{GoesRound}
 use Rattle.hausdorff.proofs.SortLaws.{related-cons, related-map, arranged-member, arranged-length, sort-arranges, sort-rising}
 

@@ -24,10 +24,11 @@ use Rattle.hausdorff.specs.declared.Side.the-variants.{A}
 use Rattle.hausdorff.specs.Pair.{Pair, other, sameSide, stepCount}
 use Rattle.hausdorff.specs.AngularOrder.{PairEdge, direction, angularOrder, ownFirst, own, headOr, Cyclic}
 use Rattle.hausdorff.specs.Sweep.{Sweep, begin, passed, step, steps, after}
-use Rattle.plane.proofs.DirectionLaws.{NonZero}
+use Rattle.plane.proofs.Halves.{NonZero}
+use Rattle.plane.proofs.DirectionLaws.{along?}
 use Rattle.hausdorff.proofs.OrderLaws.{Rounds, order-members, order-length, order-rising, own-members, own-rising, own-cyclic, own-iff}
 use Rattle.hausdorff.proofs.Extreme.{ExtremeCorner, ExtremeFeature, Touches}
-use Rattle.hausdorff.proofs.ExtremeLaws.{along?, turned, turned-some, corner-around}
+use Rattle.hausdorff.proofs.ExtremeLaws.{turned, turned-some, corner-around}
 use Rattle.hausdorff.proofs.Cut.{Cut, strict, weak, Divided, divide, headOr-head, CutAt, supportAt}
 use Rattle.hausdorff.proofs.Cut.{strict-support, weak-end, strict-touches, weak-touches}
 

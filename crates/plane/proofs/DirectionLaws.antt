@@ -1,34 +1,55 @@
 -- The order of directions, for vectors with whole components of any size. A vector that is 0 has no direction.
---     Before, NonZero     the test `isBefore` holds; a vector is not 0
+--     Before, Along, Apart         d comes before e; neither comes before the other; one of them does
+--     before?, along?              these are decided
 --     before-asym, before-trans    the order is strict
---     before-split        where d comes before f, any third direction comes after d or before f
---     same-iff            directions are the same exactly where neither comes before the other
---     between-rising, between-falling    where t lies when it is not right of e and not left of f
+--     before-split                 where d comes before f, any third direction comes after d or before f
+--     same-iff, along-iff          directions are the same exactly where they are along, which is on one line and the same way
+--     along-apart                  f does not have t's direction where e has it and f another than e
+--     Around                       t lies from e counterclockwise to f, less than a whole turn
+--     around-start, around-end     so it does where it has the direction of e, or of f
+--     around-turns                 and where it is not right of e and not left of f
+--     across                       where d comes before e, which is not left of it, d is in the first half and e in the second
 --     cross-between, cross-first, cross-last    a direction k from e counterclockwise to f, which is less than half a turn on, is left of e
---                         and has f on its left: if it comes between e and f, or, where f comes before e, before f or after e
--- A half turn is closed at one end only, which signs of products do not show. But for any three vectors there is one just before the
--- positive x axis that has those of the first half on its left and the others on its right (`reference`), and the laws follow by signs.
+--                                  and has f on its left: if it comes between e and f, or, where f comes before e, before f or after e
 use mathlib.Core.Path.{_≡_, refl, sym, _∙_}
 use mathlib.Core.Logic.{_⊎_, inl, inr, ⊎-elim, _↔_}
-use mathlib.Core.Bool.{Bool, true, false, not, _&&_, _||_, Bool-discrete, true≢false, false≢true}
+use mathlib.Core.Bool.{Bool, true, false, not, _&&_, Bool-discrete, true≢false, false≢true}
 use mathlib.Core.List.{List, [], _∷_}
-use lib.IntN.{ℤ, pos, negsuc, _*ℤ_}
+use lib.IntN.{ℤ, pos}
 use lib.Signed.{_≤ℤ_, _<ℤ_, ltZ, ≤ℤ-refl, clashℤ}
 use Rattle.integers.specs.Equal.{eqZ}
-use Rattle.integers.proofs.Order.{ltZ-true, ltZ-false, <ℤ-ltZ, <ℤ-≤ℤ, ≤ℤ-or-<ℤ, ≰ℤ-<ℤ, ≮ℤ-≤ℤ, ≤ℤ-antisym}
-use Rattle.integers.proofs.Polynomial.{Expr, var, lit, ⊝_, _⊕_, _⊖_, _⊗_, eval}
-use Rattle.integers.proofs.Certificate.{Claim, _≺_, _≼_, _≗_, Cert, hyp, tight, num, sq, eqn, _⊞_, _⊠_, prove, refute}
-use Rattle.integers.proofs.Reflect.{test-eqZ, test-false}
+use Rattle.integers.proofs.Order.{ltZ-true, <ℤ-ltZ, <ℤ-≤ℤ, ≤ℤ-or-<ℤ, ≰ℤ-<ℤ, ≮ℤ-≤ℤ, ≤ℤ-antisym}
+use Rattle.integers.proofs.Polynomial.{Expr}
+use Rattle.integers.proofs.Certificate.{Claim, _≺_, _≼_, Cert, hyp, sq, _⊞_, _⊠_, prove, refute}
+use Rattle.integers.proofs.Reflect.{test-and, test-eqZ}
 use Rattle.plane.specs.declared.Vector.{Vector}
 use Rattle.plane.specs.Vector.{cross, dot}
 use Rattle.plane.specs.Direction.{isFirstHalf, byHalves, isBefore, sameHalf, sameDirection}
 use Rattle.plane.proofs.Algebra.{O, vec, crossE, dotE, components, cross-length}
+use Rattle.plane.proofs.Halves.{NonZero, Sign, Reference, reference, line-halves}
 
 abbrev pub Before : Vector → Vector → Type 0
 Before d e = isBefore d e ≡ true
 
-abbrev pub NonZero : Vector → Type 0
-NonZero d = pos 0 <ℤ dot d d
+abbrev pub Along : Vector → Vector → Type 0
+Along d e = (¬ Before d e) × (¬ Before e d)
+
+abbrev pub Apart : Vector → Vector → Type 0
+Apart d e = Before d e ⊎ Before e d
+
+pub before? : (d e : Vector) → Dec (Before d e)
+before? d e = Bool-discrete (isBefore d e) true
+
+pub along? : (d e : Vector) → Along d e ⊎ Apart d e
+along? d e = elim (before? d e) [
+  | yes first ↦ inr (inl first)
+  | no a ↦ elim (before? e d) [ yes second ↦ inr (inr second) | no b ↦ inl (a, b) ]
+]
+
+-- not both before e and after f; and where e comes before f, neither
+pub record Around (e f t : Vector) : Type 0 where
+  pub inside : (¬ Before t e) ⊎ (¬ Before f t)
+  pub rising : Before e f → (¬ Before t e) × (¬ Before f t)
 
 -- ---- turns
 
@@ -48,67 +69,10 @@ cross-back d e =
     let there = crossE (vec 0) (vec 2) in let back = crossE (vec 2) (vec 0) in
     (prove env (O ≼ there ∷ []) (back ≼ O) (hyp 0 ⊞ hyp 1) tt, prove env (back ≼ O ∷ []) (O ≼ there) (hyp 0 ⊞ hyp 1) tt)
 
--- ---- the halves by signs
-
--- above 0 for the first half, below for the second
-abbrev Sign : Bool → ℤ → Type 0
-Sign true z = pos 0 <ℤ z
-Sign false z = z <ℤ pos 0
-
--- just before the positive x axis, for a large m
-abbrev low : ℤ → Vector
-low m = record { x = m; y = negsuc 0 }
-
--- its cross product with the vector of the variables 0 and 1; m is variable 2
-abbrev lowE : Expr
-lowE = crossE (record { x = var 2; y = lit (negsuc 0) }) (vec 0)
-
--- m y + x is above 0 in the first half and below 0 in the second, if m is above the size of x
-half-sign : (d : Vector) (m : ℤ) → NonZero d → (d .x *ℤ d .x) <ℤ m → Sign (isFirstHalf d) (cross (low m) d)
-unfolding cross dot isFirstHalf
-half-sign d m some large = go (ltZ (pos 0) (d .y)) (eqZ (d .y) (pos 0)) (ltZ (pos 0) (d .x)) refl refl refl
-  where
-    go : (up flat right : Bool) → ltZ (pos 0) (d .y) ≡ up → eqZ (d .y) (pos 0) ≡ flat → ltZ (pos 0) (d .x) ≡ right
-        → Sign (up || (flat && right)) (cross (low m) d)
-    go true _ _ up _ _ =
-        prove (d .x ∷ d .y ∷ m ∷ []) (var 0 ⊗ var 0 ≺ var 2 ∷ O ≺ var 1 ∷ []) (O ≺ lowE)
-        (num 1 ⊠ (hyp 0 ⊞ tight 1 ⊞ tight 2 ⊠ (hyp 1 ⊞ sq (var 0))) ⊞ sq (var 0) ⊞ sq (var 0 ⊕ lit (pos 1)) ⊞ num 0) tt
-        large (ltZ-true up)
-    go false true true _ flat right =
-        prove (d .x ∷ d .y ∷ m ∷ []) (var 1 ≗ O ∷ O ≺ var 0 ∷ []) (O ≺ lowE) (hyp 0 ⊞ hyp 2 ⊞ eqn 1 (⊝ var 2)) tt
-        (test-eqZ (d .y) (pos 0) .0 flat) (ltZ-true right)
-    go false true false _ flat left =
-        prove (d .x ∷ d .y ∷ m ∷ []) (O ≺ dotE (vec 0) (vec 0) ∷ var 1 ≗ O ∷ var 0 ≼ O ∷ []) (lowE ≺ O)
-        (hyp 1 ⊞ hyp 0 ⊠ hyp 3 ⊞ eqn 2 (var 1 ⊖ var 2 ⊗ var 0)) tt some (test-eqZ (d .y) (pos 0) .0 flat) (ltZ-false left)
-    go false false _ down other _ =
-        prove (d .x ∷ d .y ∷ m ∷ []) (var 0 ⊗ var 0 ≺ var 2 ∷ var 1 ≺ O ∷ []) (lowE ≺ O)
-        (num 1 ⊠ (hyp 0 ⊞ tight 1 ⊞ tight 2 ⊠ (hyp 1 ⊞ sq (var 0))) ⊞ sq (var 0) ⊞ sq (var 0 ⊖ lit (pos 1)) ⊞ num 0) tt
-        large (≰ℤ-<ℤ (λ up. test-false _ (test-eqZ (d .y) (pos 0)) .0 other (≤ℤ-antisym (ltZ-false down) up)))
-
--- a vector that tells the halves of three
-record Reference (e f t : Vector) : Type 0 where
-  from : Vector
-  of-e : Sign (isFirstHalf e) (cross from e)
-  of-f : Sign (isFirstHalf f) (cross from f)
-  of-t : Sign (isFirstHalf t) (cross from t)
-
--- m is 1 more than the squares of the three x together
-reference : (e f t : Vector) → NonZero e → NonZero f → NonZero t → Reference e f t
-reference e f t e-some f-some t-some =
-    let env : List ℤ = e .x ∷ f .x ∷ t .x ∷ [] in
-    let m' = lit (pos 1) ⊕ var 0 ⊗ var 0 ⊕ var 1 ⊗ var 1 ⊕ var 2 ⊗ var 2 in
-    let m = eval env m' in
-    record {
-      from = low m;
-      of-e = half-sign e m e-some (prove env [] (var 0 ⊗ var 0 ≺ m') (hyp 0 ⊞ num 0 ⊞ sq (var 1) ⊞ sq (var 2)) tt);
-      of-f = half-sign f m f-some (prove env [] (var 1 ⊗ var 1 ≺ m') (hyp 0 ⊞ num 0 ⊞ sq (var 0) ⊞ sq (var 2)) tt);
-      of-t = half-sign t m t-some (prove env [] (var 2 ⊗ var 2 ≺ m') (hyp 0 ⊞ num 0 ⊞ sq (var 0) ⊞ sq (var 1)) tt);
-    }
-
 -- ---- the order by halves
 
 -- the first half comes before the second
-abbrev Across : Vector → Vector → Type 0
+abbrev pub Across : Vector → Vector → Type 0
 Across d e = (isFirstHalf d ≡ true) × (isFirstHalf e ≡ false)
 
 -- within a half a vector comes before those on its left
@@ -128,7 +92,7 @@ before-iff d e = byHalves-true (isFirstHalf d) (isFirstHalf e) (ltZ (pos 0) (cro
 
 -- the way is across if e is not left of d, and within if e is in the first half or d in the second
 module _ (d e : Vector) (before : Before d e) where
-  across : cross d e ≤ℤ pos 0 → Across d e
+  pub across : cross d e ≤ℤ pos 0 → Across d e
   across right = elim (before-iff d e .0 before) [ inl halves ↦ halves | inr (_, left) ↦ clashℤ left right ]
 
   within-first : isFirstHalf e ≡ true → Within d e
@@ -214,6 +178,16 @@ before-trans d e f first next = elim (before-iff e f .0 next) [
       ⊎-elim (λ before. before) (λ back. absurd (before-asym e f next back)) (before-split d f e (cross-length e f left) first)
 ]
 
+-- the two parts of the test
+same-parts : (d e : Vector) → (sameDirection d e ≡ true) ↔ ((isFirstHalf d ≡ isFirstHalf e) × (cross d e ≡ pos 0))
+unfolding sameDirection
+same-parts d e = test-and _ _ (sameHalf-true (isFirstHalf d) (isFirstHalf e)) (test-eqZ (cross d e) (pos 0))
+  where
+    sameHalf-true : (a b : Bool) → (sameHalf a b ≡ true) ↔ (a ≡ b)
+    sameHalf-true true b = (sym, sym)
+    sameHalf-true false true = (λ never. absurd (false≢true never), λ never. absurd (false≢true never))
+    sameHalf-true false false = (λ _. refl, λ _. refl)
+
 -- in one half, neither is left of the other where the cross product is 0
 pub same-iff : (d e : Vector) → (sameDirection d e ≡ true) ↔ ((¬ Before d e) × (¬ Before e d))
 unfolding isBefore sameDirection
@@ -238,28 +212,46 @@ same-iff d e = go (isFirstHalf d) (isFirstHalf e)
     go false true = (λ never. absurd (false≢true never), λ neither. absurd (neither .1 refl))
     go false false = one-half
 
-module _ (e f t : Vector) (e-some : NonZero e) (f-some : NonZero f) (t-some : NonZero t) where
-  -- if t came before e or after f it would lie in the other half than both
-  pub between-rising : Before e f → pos 0 ≤ℤ cross e t → cross f t ≤ℤ pos 0 → (¬ Before t e) × (¬ Before f t)
-  between-rising before left right = (early, late)
-    where
-      early : ¬ Before t e
-      early to-e =
-          let halves = across t e to-e (cross-back e t .0 left) in
-          opposite e f t (within-second e f before (halves .1)) t-some (rw (halves .0, halves .1)) left right
+-- directions are the same exactly where the vectors lie on one line and point the same way
+pub along-iff : (d e : Vector) → NonZero d → NonZero e → Along d e ↔ ((cross d e ≡ pos 0) × (pos 0 <ℤ dot d e))
+along-iff d e d-some e-some = (
+  λ along. let (half, line) = same-parts d e .0 (same-iff d e .1 along) in (line, line-halves d e d-some e-some line .0 half),
+  λ (line, ahead). same-iff d e .0 (same-parts d e .1 (line-halves d e d-some e-some line .1 ahead, line)),
+)
 
-      late : ¬ Before f t
-      late from-f =
+module _ (e f t : Vector) where
+  -- what is apart from a direction along t is apart from t
+  pub along-apart : NonZero t → Along e t → Apart e f → Apart f t
+  along-apart some (a, b) (inl first) = ⊎-elim (λ h. absurd (a h)) inr (before-split e t f some first)
+  along-apart some (a, b) (inr first) = ⊎-elim inl (λ h. absurd (b h)) (before-split f t e some first)
+
+  pub around-start : Along e t → Around e f t
+  around-start (a, b) = record { inside = inl b; rising = λ first. (b, λ h. a (before-trans e f t first h)) }
+
+  pub around-end : Along f t → Around e f t
+  around-end (a, b) = record { inside = inr a; rising = λ first. (λ h. b (before-trans t e f h first), a) }
+
+  -- if t came before e and after f it would lie in both halves; and where e comes before f, in the other half than both if it came before
+  -- e or after f
+  pub around-turns : NonZero t → pos 0 ≤ℤ cross e t → cross f t ≤ℤ pos 0 → Around e f t
+  around-turns some left right = record { inside = inside; rising = λ before. (early before, late before) }
+    where
+      inside : (¬ Before t e) ⊎ (¬ Before f t)
+      inside = elim (before? t e) [
+        | yes early ↦ inr (λ late. true≢false (sym (across t e early (cross-back e t .0 left) .0) ∙ across f t late right .1))
+        | no not-early ↦ inl not-early
+      ]
+
+      early : Before e f → ¬ Before t e
+      early before to-e =
+          let halves = across t e to-e (cross-back e t .0 left) in
+          opposite e f t (within-second e f before (halves .1)) some (rw (halves .0, halves .1)) left right
+
+      late : Before e f → ¬ Before f t
+      late before from-f =
           let halves = across f t from-f right in
           let within = within-first e f before (halves .0) in
-          opposite e f t within t-some (rw (halves .1, within .0, halves .0)) left right
-
-  -- if t came before e and after f it would lie in both halves
-  pub between-falling : Before f e → pos 0 ≤ℤ cross e t → cross f t ≤ℤ pos 0 → (¬ Before t e) ⊎ (¬ Before f t)
-  between-falling _ left right = elim (Bool-discrete (isBefore t e) true) [
-    | yes early ↦ inr (λ late. true≢false (sym (across t e early (cross-back e t .0 left) .0) ∙ across f t late right .1))
-    | no not-early ↦ inl not-early
-  ]
+          opposite e f t within some (rw (halves .1, within .0, halves .0)) left right
 
 module _ (e f k : Vector) (turns : pos 0 <ℤ cross e f) where
   not-left : cross f e ≤ℤ pos 0

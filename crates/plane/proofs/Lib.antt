@@ -6,4 +6,5 @@ pub mod Range
 pub mod Tests
 pub mod Points
 pub mod Foot
+pub mod Halves
 pub mod DirectionLaws
