@@ -22,28 +22,31 @@ use Rattle.nearest.specs.Local.{nearest}
 use Rattle.nearest.specs.Feature.{values}
 use Rattle.nearest.proofs.AnswerLaws.{answers-iff, within-iff, gap-zero-iff}
 use Rattle.nearest.proofs.SearchLaws.{search-nearest}
-use Rattle.hausdorff.specs.declared.Worst.{Worst}
+use Rattle.hausdorff.specs.declared.CornerGap.{CornerGap}
 use Rattle.hausdorff.specs.declared.WorstSoFar.{WorstSoFar}
 use Rattle.hausdorff.specs.declared.WorstSoFar.the-variants.{None, Worst as Some}
 use Rattle.hausdorff.specs.declared.Side.{Side}
 use Rattle.hausdorff.specs.declared.Side.the-variants.{A, B}
 use Rattle.hausdorff.specs.Pair.{Pair, other, stepCount, Polygons}
-use Rattle.hausdorff.specs.Worst.{named, found, gapOf, shownNumber, overall}
+use Rattle.hausdorff.specs.CornerGap.{named, found, cornerGap}
+use Rattle.hausdorff.specs.Worst.{shownNumber, overall}
 use Rattle.hausdorff.specs.Sweep.{after}
 use Rattle.hausdorff.specs.Report.{answer, firstWithin, orFirstWithin}
 use Rattle.hausdorff.specs.Exhaustive.{tried, worse, tryCorners, exhaustive}
 use Rattle.hausdorff.specs.Figure.{IsGap, NotLater, IsAnswer}
 use Rattle.integers.proofs.FractionOrder.{notGreater-trans, isLess-true, isLess-false}
 use Rattle.integers.proofs.FractionOrder.{less-isLess, notGreater-isLess, less-notGreater}
-use Rattle.hausdorff.proofs.Preference.{Preferred, preferred-refl, gap-positive, least-iff}
-use Rattle.hausdorff.proofs.WorstLaws.{StoredAs, SideWorst, side-worst}
+use Rattle.hausdorff.proofs.DistanceLaws.{gap-positive}
+use Rattle.hausdorff.proofs.Preference.{Preferred, preferred-refl, least-iff}
+use Rattle.hausdorff.proofs.WorstLaws.{StoredAs}
+use Rattle.hausdorff.proofs.SideWorst.{SideWorst, side-worst}
 
 -- Two corners of which neither is later are one.
-not-later-antisym : (pair : Pair) (s t : Side) (i j : ℕ) → NotLater s i t j → NotLater t j s i → gapOf pair s i ≡ gapOf pair t j
-not-later-antisym pair A A i j p q = ap (gapOf pair A) (le-antisymm p q)
+not-later-antisym : (pair : Pair) (s t : Side) (i j : ℕ) → NotLater s i t j → NotLater t j s i → cornerGap pair s i ≡ cornerGap pair t j
+not-later-antisym pair A A i j p q = ap (cornerGap pair A) (le-antisymm p q)
 not-later-antisym pair A B i j p q = absurd q
 not-later-antisym pair B A i j p q = absurd p
-not-later-antisym pair B B i j p q = ap (gapOf pair B) (le-antisymm p q)
+not-later-antisym pair B B i j p q = ap (cornerGap pair B) (le-antisymm p q)
 
 -- On one side the numbers decide.
 same-side : (s : Side) (i j : ℕ) → i ≤ j → NotLater s i s j
@@ -51,28 +54,28 @@ same-side A i j p = p
 same-side B i j p = p
 
 -- w is one of some gaps, the greatest of these, and the first of equals
-record Leads (pair : Pair) (Among : Worst → Type 0) (w : Worst) : Type 0 where
+record Leads (pair : Pair) (Among : CornerGap → Type 0) (w : CornerGap) : Type 0 where
   is-gap : IsGap pair w
   among : Among w
-  greatest : (z : Worst) → IsGap pair z → Among z → NotGreater (z .gap) (w .gap)
-  first : (z : Worst) → IsGap pair z → Among z → NotGreater (w .gap) (z .gap) → NotLater (w .side) (w .corner) (z .side) (z .corner)
+  greatest : (z : CornerGap) → IsGap pair z → Among z → NotGreater (z .gap) (w .gap)
+  first : (z : CornerGap) → IsGap pair z → Among z → NotGreater (w .gap) (z .gap) → NotLater (w .side) (w .corner) (z .side) (z .corner)
 
 -- a corner of the side s, whose number has the property Q
-abbrev Of : Side → (ℕ → Type 0) → Worst → Type 0
+abbrev Of : Side → (ℕ → Type 0) → CornerGap → Type 0
 Of s Q w = (w .side ≡ s) × Q (w .corner)
 
 -- any corner of the side s
-abbrev On : Pair → Side → Worst → Type 0
+abbrev On : Pair → Side → CornerGap → Type 0
 On pair s = Of s (λ j. j < length (pair s))
 
 -- the worst of a side, or its corner 0 where there is none
-abbrev orFirst : Pair → Side → WorstSoFar → Worst
-orFirst pair s None = gapOf pair s 0
+abbrev orFirst : Pair → Side → WorstSoFar → CornerGap
+orFirst pair s None = cornerGap pair s 0
 orFirst pair s (Some w) = w
 
 module _ (pair : Pair) (polygons : Polygons pair) where
   -- both say what is nearest to the corner; the rest of w is its name
-  pub gap-iff : (w : Worst) → IsGap pair w ↔ ((w .corner < length (pair (w .side))) × (w ≡ gapOf pair (w .side) (w .corner)))
+  pub gap-iff : (w : CornerGap) → IsGap pair w ↔ ((w .corner < length (pair (w .side))) × (w ≡ cornerGap pair (w .side) (w .corner)))
   gap-iff w = (
     λ is. (is .known, ap (named (w .side) (w .corner)) (meaning .0 (is .answers))),
     λ (known, is). record { known = known; answers = meaning .1 (ap found is) },
@@ -83,7 +86,7 @@ module _ (pair : Pair) (polygons : Polygons pair) where
       meaning = answers-iff (polygons (other (w .side))) (corner (pair (w .side)) (w .corner)) (found w)
 
   -- neither of two answers is greater, so neither is later
-  pub answer-unique : (w z : Worst) → IsAnswer pair w → IsAnswer pair z → w ≡ z
+  pub answer-unique : (w z : CornerGap) → IsAnswer pair w → IsAnswer pair z → w ≡ z
   answer-unique w z is also =
       gap-iff w .0 (is .is-gap) .1
       ∙ not-later-antisym pair (w .side) (z .side) (w .corner) (z .corner)
@@ -92,12 +95,12 @@ module _ (pair : Pair) (polygons : Polygons pair) where
       ∙ sym (gap-iff z .0 (also .is-gap) .1)
 
   -- a gap has a lower number above 0, so that the order of gaps is transitive
-  gap-lower : (z : Worst) → IsGap pair z → 0 < z .gap .lower
+  gap-lower : (z : CornerGap) → IsGap pair z → 0 < z .gap .lower
   gap-lower z is =
-      subst (λ (x : Worst). 0 < x .gap .lower) (sym (gap-iff z .0 is .1)) (gap-positive pair polygons (z .side) (z .corner))
+      subst (λ (x : CornerGap). 0 < x .gap .lower) (sym (gap-iff z .0 is .1)) (gap-positive pair polygons (z .side) (z .corner))
 
   -- only which gaps it leads among matters, not how that is said
-  leads-map : {T U : Worst → Type 0} {w : Worst} → ((z : Worst) → IsGap pair z → T z ↔ U z) → Leads pair T w → Leads pair U w
+  leads-map : {T U : CornerGap → Type 0} {w : CornerGap} → ((z : CornerGap) → IsGap pair z → T z ↔ U z) → Leads pair T w → Leads pair U w
   leads-map {w = w} same leads = record {
     is-gap = leads .is-gap;
     among = same w (leads .is-gap) .0 (leads .among);
@@ -106,8 +109,8 @@ module _ (pair : Pair) (polygons : Polygons pair) where
   }
 
   -- The worse of what leads among some and of what leads among later ones leads among all of these.
-  leads-worse : {T U : Worst → Type 0} (w z : Worst) → Leads pair T w → Leads pair U z
-      → ((x : Worst) → U x → NotLater (w .side) (w .corner) (x .side) (x .corner))
+  leads-worse : {T U : CornerGap → Type 0} (w z : CornerGap) → Leads pair T w → Leads pair U z
+      → ((x : CornerGap) → U x → NotLater (w .side) (w .corner) (x .side) (x .corner))
       → Leads pair (λ x. T x ⊎ U x) (worse w z)
   leads-worse {T} {U} w z p q order = go (isLess (w .gap) (z .gap)) refl
     where
@@ -139,19 +142,19 @@ module _ (pair : Pair) (polygons : Polygons pair) where
 
   -- a corner that is preferred among some of its side leads among their gaps
   leads-of : (s : Side) (Q : ℕ → Type 0) (i : ℕ) → i < length (pair s) → Q i
-      → ((j : ℕ) → Q j → Preferred (shownNumber s) (gapOf pair s i) (gapOf pair s j)) → Leads pair (Of s Q) (gapOf pair s i)
+      → ((j : ℕ) → Q j → Preferred (shownNumber pair s) (cornerGap pair s i) (cornerGap pair s j)) → Leads pair (Of s Q) (cornerGap pair s i)
   leads-of s Q i below holds preferred = record {
-    is-gap = gap-iff (gapOf pair s i) .1 (below, refl);
+    is-gap = gap-iff (cornerGap pair s i) .1 (below, refl);
     among = (refl, holds);
     greatest = λ z is (on, q). rw (gap-at z s is on) (preferred (z .corner) q .not-less);
     first = λ z is (on, q) equal. rw on (same-side s i (z .corner) (preferred (z .corner) q .first (rw (gap-at z s is on) at equal)));
   }
     where
-      gap-at : (z : Worst) (s : Side) → IsGap pair z → z .side ≡ s → z .gap ≡ gapOf pair s (z .corner) .gap
-      gap-at z s is on = ap (λ (x : Worst). x .gap) (gap-iff z .0 is .1) ∙ ap (λ (t : Side). gapOf pair t (z .corner) .gap) on
+      gap-at : (z : CornerGap) (s : Side) → IsGap pair z → z .side ≡ s → z .gap ≡ cornerGap pair s (z .corner) .gap
+      gap-at z s is on = ap (λ (x : CornerGap). x .gap) (gap-iff z .0 is .1) ∙ ap (λ (t : Side). cornerGap pair t (z .corner) .gap) on
 
   -- what leads among all gaps is the answer
-  leads-all : {T : Worst → Type 0} {w : Worst} → ((z : Worst) → IsGap pair z → T z) → Leads pair T w → IsAnswer pair w
+  leads-all : {T : CornerGap → Type 0} {w : CornerGap} → ((z : CornerGap) → IsGap pair z → T z) → Leads pair T w → IsAnswer pair w
   leads-all every leads = record {
     is-gap = leads .is-gap;
     greatest = λ z is. leads .greatest z is (every z is);
@@ -159,7 +162,7 @@ module _ (pair : Pair) (polygons : Polygons pair) where
   }
 
   -- a gap is of A or of B
-  either : (z : Worst) → IsGap pair z → On pair A z ⊎ On pair B z
+  either : (z : CornerGap) → IsGap pair z → On pair A z ⊎ On pair B z
   either z is = go (z .side) refl
     where
       go : (s : Side) → z .side ≡ s → On pair A z ⊎ On pair B z
@@ -167,7 +170,7 @@ module _ (pair : Pair) (polygons : Polygons pair) where
       go B on = inr (on, rw on at (is .known))
 
   -- A's corners come before B's
-  sides-answer : (w z : Worst) → Leads pair (On pair A) w → Leads pair (On pair B) z → IsAnswer pair (worse w z)
+  sides-answer : (w z : CornerGap) → Leads pair (On pair A) w → Leads pair (On pair B) z → IsAnswer pair (worse w z)
   sides-answer w z p q = leads-all either (leads-worse w z p q (λ x on. rw (p .among .0, on .0) tt))
 
   -- what the sweep finds for a side leads on it, and so does its corner 0 where that is none
@@ -181,8 +184,8 @@ module _ (pair : Pair) (polygons : Polygons pair) where
       (λ j below. rw (is .stored .is) at (is .preferred j below)))
 
   -- a corner outside has a greater gap than one within
-  outside-above : (s t : Side) (w : Worst) (j : ℕ) → StoredAs pair s w → InPiece (pair (other t)) (whole (corner (pair t) j))
-      → ¬ NotGreater (w .gap) (gapOf pair t j .gap)
+  outside-above : (s t : Side) (w : CornerGap) (j : ℕ) → StoredAs pair s w → InPiece (pair (other t)) (whole (corner (pair t) j))
+      → ¬ NotGreater (w .gap) (cornerGap pair t j .gap)
   outside-above s t w j is within not-greater =
       is .is-outside .outside (least-iff pair polygons s t (is .number) j within .0 (rw (is .is) at not-greater))
 
@@ -192,16 +195,16 @@ module _ (pair : Pair) (polygons : Polygons pair) where
   overall-worse None None p q =
       ap (λ (f : Feature). named A 0 (values (pair B) (corner (pair A) 0) f))
       (sym (within-iff (polygons B) (corner (pair A) 0) .1 (p 0 (some A))))
-      ∙ sym (ap (λ (t : Bool). cond t (gapOf pair B 0) (gapOf pair A 0))
-      (notGreater-isLess (gapOf pair A 0 .gap) (gapOf pair B 0 .gap)
+      ∙ sym (ap (λ (t : Bool). cond t (cornerGap pair B 0) (cornerGap pair A 0))
+      (notGreater-isLess (cornerGap pair A 0 .gap) (cornerGap pair B 0 .gap)
       (least-iff pair polygons B A 0 0 (p 0 (some A)) .1 (q 0 (some B)))))
   overall-worse None (Some b) p q =
-      sym (ap (λ (t : Bool). cond t b (gapOf pair A 0))
-      (less-isLess (gapOf pair A 0 .gap) (b .gap) (outside-above B A b 0 (q .stored) (p 0 (some A)))))
+      sym (ap (λ (t : Bool). cond t b (cornerGap pair A 0))
+      (less-isLess (cornerGap pair A 0 .gap) (b .gap) (outside-above B A b 0 (q .stored) (p 0 (some A)))))
   overall-worse (Some a) None p q =
-      sym (ap (λ (t : Bool). cond t (gapOf pair B 0) a)
-      (notGreater-isLess (a .gap) (gapOf pair B 0 .gap)
-      (less-notGreater (gapOf pair B 0 .gap) (a .gap) (outside-above A B a 0 (p .stored) (q 0 (some B))))))
+      sym (ap (λ (t : Bool). cond t (cornerGap pair B 0) a)
+      (notGreater-isLess (a .gap) (cornerGap pair B 0 .gap)
+      (less-notGreater (cornerGap pair B 0 .gap) (a .gap) (outside-above A B a 0 (p .stored) (q 0 (some B))))))
   overall-worse (Some a) (Some b) p q = refl
 
   -- so it is the answer
@@ -214,22 +217,22 @@ module _ (pair : Pair) (polygons : Polygons pair) where
       (side-worst pair polygons A) (side-worst pair polygons B)
 
   -- every corner is within
-  pub zero-answer : ((w : Worst) → IsGap pair w → w .gap .upper ≡ 0) → IsAnswer pair (firstWithin pair)
+  pub zero-answer : ((w : CornerGap) → IsGap pair w → w .gap .upper ≡ 0) → IsAnswer pair (firstWithin pair)
   zero-answer none = overall-answers None None (within A) (within B)
     where
       within : (s : Side) → SideWorst pair s None
       within s i below = gap-zero-iff (polygons (other s)) (corner (pair s) i) .0
-          (none (gapOf pair s i) (gap-iff (gapOf pair s i) .1 (below, refl)))
+          (none (cornerGap pair s i) (gap-iff (cornerGap pair s i) .1 (below, refl)))
 
   -- what is tried is the corner's gap
   tried-leads : (s : Side) (n : ℕ) → n < length (pair s) → Leads pair (Of s (λ j. j ≡ n)) (tried pair s n)
   tried-leads s n below =
       subst (Leads pair (Of s (λ j. j ≡ n))) (ap (named s n) (sym (search-nearest (polygons (other s)) (corner (pair s) n))))
-      (leads-of s (λ j. j ≡ n) n below refl (λ j e. rw e (preferred-refl (shownNumber s) (gapOf pair s n))))
+      (leads-of s (λ j. j ≡ n) n below refl (λ j e. rw e (preferred-refl (shownNumber pair s) (cornerGap pair s n))))
 
   -- where w leads among gaps that are not later than any of side s, trying the corners of s below n leads to what leads among all of these
-  tries : {T : Worst → Type 0} (s : Side) (w : Worst) → Leads pair T w
-      → ((x z : Worst) → T x → z .side ≡ s → NotLater (x .side) (x .corner) (z .side) (z .corner))
+  tries : {T : CornerGap → Type 0} (s : Side) (w : CornerGap) → Leads pair T w
+      → ((x z : CornerGap) → T x → z .side ≡ s → NotLater (x .side) (x .corner) (z .side) (z .corner))
       → (n : ℕ) → n ≤ length (pair s) → Leads pair (λ z. T z ⊎ Of s (λ j. j < n) z) (tryCorners pair s w n)
   unfolding tryCorners
   tries s w leads later zero fits = leads-map (λ z is. (inl, ⊎-elim (λ t. t) (λ of. absurd (omega (arith, of .1))))) leads
@@ -239,7 +242,7 @@ module _ (pair : Pair) (polygons : Polygons pair) where
       (leads-worse (tryCorners pair s w n) (tried pair s n) rest (tried-leads s n (omega arith))
       (order (tryCorners pair s w n) (rest .among)))
     where
-      one-more : (z : Worst) → IsGap pair z
+      one-more : (z : CornerGap) → IsGap pair z
           → ((T z ⊎ Of s (λ j. j < n) z) ⊎ Of s (λ j. j ≡ n) z) ↔ (T z ⊎ Of s (λ j. j < suc n) z)
       one-more z is = (
         ⊎-elim (⊎-elim inl (λ (on, below). inr (on, omega arith))) (λ (on, e). inr (on, omega arith)),
@@ -249,8 +252,8 @@ module _ (pair : Pair) (polygons : Polygons pair) where
         ]),
       )
 
-      order : (w : Worst) → T w ⊎ Of s (λ j. j < n) w
-          → (x : Worst) → Of s (λ j. j ≡ n) x → NotLater (w .side) (w .corner) (x .side) (x .corner)
+      order : (w : CornerGap) → T w ⊎ Of s (λ j. j < n) w
+          → (x : CornerGap) → Of s (λ j. j ≡ n) x → NotLater (w .side) (w .corner) (x .side) (x .corner)
       order w among x (on, e) = elim among [
         | inl t ↦ later w x t on
         | inr of ↦ rw (of .0, on) (same-side s (w .corner) (x .corner) (omega (arith, of .1)))

@@ -35,8 +35,8 @@ use Rattle.nearest.proofs.AnswerLaws.{feature-tested, tested-answers}
 use Rattle.nearest.proofs.FitsLaws.{fits-unique}
 use Rattle.nearest.proofs.LocalLaws.{length-above-0}
 use Rattle.nearest.proofs.PieceLaws.{outside-test}
-use Rattle.hausdorff.specs.Counting.{isPoint, liesOn, meetsAt, isCounted}
-use Rattle.hausdorff.proofs.Extreme.{Touches}
+use Rattle.hausdorff.specs.Counting.{isSame, liesOn, liesAt, isCounted}
+use Rattle.hausdorff.proofs.Extreme.{AtSupport}
 
 -- ---- what the tests say
 
@@ -50,7 +50,7 @@ record LiesOn (cs : List Corner) (i : ℕ) (y : Point) : Type 0 where
 abbrev Meets : List Corner → ℕ → Point → Type 0
 Meets cs b y = (Same y (whole (corner cs b)) ⊎ LiesOn cs (previous (length cs) b) y) ⊎ LiesOn cs b y
 
-point-test : (y z : Point) → (isPoint y z ≡ true) ↔ Same y z
+point-test : (y z : Point) → (isSame y z ≡ true) ↔ Same y z
 point-test y z = Iff·trans (test-and _ _ (test-eqZ _ _) (test-eqZ _ _)) (
   λ (x, y). record { same-x = x; same-y = y },
   λ same. (same .same-x, same .same-y),
@@ -62,8 +62,8 @@ lies-test cs i y = Iff·trans (test-and _ _ (test-and _ _ (test-eqZ _ _) (test-l
   λ lies. ((lies .on-line, lies .from-start), lies .to-end),
 )
 
-meets-test : (cs : List Corner) (b : ℕ) (y : Point) → (meetsAt cs b y ≡ true) ↔ Meets cs b y
-unfolding meetsAt
+meets-test : (cs : List Corner) (b : ℕ) (y : Point) → (liesAt cs b y ≡ true) ↔ Meets cs b y
+unfolding liesAt
 meets-test cs b y = test-or _ _ (test-or _ _ (point-test y (whole (corner cs b))) (lies-test cs _ y)) (lies-test cs b y)
 
 -- ---- the ends of an edge
@@ -143,32 +143,32 @@ module _ {cs : List Corner} (polygon : Polygon cs) where
 
     -- a nearest point that meets corner b is of a feature that touches it
     meets-touches : {v : Corner} {a : NearestPoint} → Answers cs v a → Outside cs (whole v)
-        → Meets cs b (a .point) → Touches n b (a .feature)
-    meets-touches is outside (inl (inl same)) = fitting is outside (Touches n b) (AtCorner b) (outside, below, same) (inl refl)
+        → Meets cs b (a .point) → AtSupport n b (a .feature)
+    meets-touches is outside (inl (inl same)) = fitting is outside (AtSupport n b) (AtCorner b) (outside, below, same) (inl refl)
     meets-touches is outside (inl (inr lies)) =
         let into = next-previous n b below in
-        lying is outside (Touches n b) (previous n b) (previous-below n b below) lies (inr (inr into)) (inl into) (inr into)
-    meets-touches is outside (inr lies) = lying is outside (Touches n b) b below lies (inl refl) (inr (inl refl)) (inl refl)
+        lying is outside (AtSupport n b) (previous n b) (previous-below n b below) lies (inr (inr into)) (inl into) (inr into)
+    meets-touches is outside (inr lies) = lying is outside (AtSupport n b) b below lies (inl refl) (inr (inl refl)) (inl refl)
 
     -- and back: a point of an edge at corner b meets it
-    edge-meets : (i : ℕ) {y : Point} → i < n → LiesOn cs i y → Touches n b (OnEdge i) → Meets cs b y
+    edge-meets : (i : ℕ) {y : Point} → i < n → LiesOn cs i y → AtSupport n b (OnEdge i) → Meets cs b y
     edge-meets i known lies (inl e) = inr (rw (← e) lies)
     edge-meets i known lies (inr e) = inl (inr (rw (← e, previous-next n i known) lies))
 
     -- and so does the corner itself and each neighbour, which ends such an edge
-    corner-meets : (i : ℕ) → i < n → Touches n b (AtCorner i) → Meets cs b (whole (corner cs i))
+    corner-meets : (i : ℕ) → i < n → AtSupport n b (AtCorner i) → Meets cs b (whole (corner cs i))
     corner-meets i known (inl e) = edge-meets i known (start-lies cs i) (inl e)
     corner-meets i known (inr (inl e)) = inr (rw e (end-lies cs b))
     corner-meets i known (inr (inr e)) = edge-meets i known (start-lies cs i) (inr e)
 
     module _ (v : Corner) where
       -- both ways, by the meaning of the tests
-      answer-counted : {a : NearestPoint} → Answers cs v a → (Touches n b (a .feature) → Outside cs (whole v) × Meets cs b (a .point))
-          → (isOutside cs v && meetsAt cs b (a .point) ≡ true) ↔ Touches n b (a .feature)
+      answer-counted : {a : NearestPoint} → Answers cs v a → (AtSupport n b (a .feature) → Outside cs (whole v) × Meets cs b (a .point))
+          → (isOutside cs v && liesAt cs b (a .point) ≡ true) ↔ AtSupport n b (a .feature)
       answer-counted {a} is back = Iff·trans (test-and _ _ (outside-test cs v) (meets-test cs b (a .point)))
           (λ (outside, meets). meets-touches is outside meets, back)
 
-      tested-counted : (f : Feature) → Tested cs v f → (isOutside cs v && meetsAt cs b (values cs v f .point) ≡ true) ↔ Touches n b f
+      tested-counted : (f : Feature) → Tested cs v f → (isOutside cs v && liesAt cs b (values cs v f .point) ≡ true) ↔ AtSupport n b f
       tested-counted Within holds = answer-counted (tested-answers polygon v Within holds) (λ none. absurd none)
       tested-counted (AtCorner i) holds =
           let is = tested-answers polygon v (AtCorner i) holds in let (outside, known, here) = is .fits in
@@ -177,6 +177,6 @@ module _ {cs : List Corner} (polygon : Polygon cs) where
           let is = tested-answers polygon v (OnEdge i) holds in let (outside, known, between) = is .fits in
           answer-counted is (λ touches. (outside, edge-meets i known (between-lies between) touches))
 
-  pub counted-iff : (b : ℕ) → b < length cs → (v : Corner) → (isCounted cs b v ≡ true) ↔ Touches (length cs) b (feature cs v)
+  pub counted-iff : (b : ℕ) → b < length cs → (v : Corner) → (isCounted cs b v ≡ true) ↔ AtSupport (length cs) b (feature cs v)
   unfolding isCounted
   counted-iff b below v = tested-counted b below v (feature cs v) (feature-tested cs v)

@@ -23,11 +23,12 @@ use Rattle.outline.proofs.CornersLaws.{next-below, next-other, previous-below, 
 use Rattle.nearest.specs.declared.Feature.{Feature}
 use Rattle.nearest.specs.declared.Feature.the-variants.{Within, Corner as AtCorner, Edge as OnEdge}
 use Rattle.nearest.specs.Piece.{edge}
-use Rattle.hausdorff.specs.AngularOrder.{headOr, Cyclic}
+use Rattle.hausdorff.specs.AngularOrder.{headOr}
 use Rattle.plane.proofs.Halves.{NonZero}
 use Rattle.plane.proofs.DirectionLaws.{Before, Along, Apart, before?, along?, before-split, along-apart, Around, around-start, around-end}
 use Rattle.hausdorff.proofs.GoesRound.{GoesRound}
-use Rattle.hausdorff.proofs.Extreme.{ExtremeFeature, Touches}
+use Rattle.hausdorff.proofs.OrderLaws.{Cyclic}
+use Rattle.hausdorff.proofs.Extreme.{ExtremeFeature, AtSupport}
 use Rattle.hausdorff.proofs.ExtremeLaws.{turned, turned-some, corner-around, edge-along}
 
 pub record Cut : Type 1 where
@@ -215,7 +216,7 @@ module _ (cs : List Corner) (round : GoesRound (length cs) (edge cs)) (u : Vecto
         let start = strict-start round (previous n i) (previous-below n i below) (turned u) (turned-some u some) here along in
         rw (start, next-previous n i below)
 
-    pub strict-touches : (f : Feature) → ExtremeFeature cs u f → Touches (length cs) (supportAt front rest) f
+    pub strict-touches : (f : Feature) → ExtremeFeature cs u f → AtSupport (length cs) (supportAt front rest) f
     strict-touches Within none = absurd none
     strict-touches (AtCorner i) extreme = ⊎-elim
         (λ along. inr (inl (start-before i (extreme .known) along)))
@@ -232,7 +233,7 @@ module _ (cs : List Corner) (round : GoesRound (length cs) (edge cs)) (u : Vecto
         let along' : Along (edge cs (previous n (next n i))) (turned u) = rw (previous-next n i below) along in
         sym (weak-end round (next n i) (next-below n i (omega arith)) (turned u) (turned-some u some) here along')
 
-    pub weak-touches : (f : Feature) → ExtremeFeature cs u f → Touches (length cs) (supportAt front rest) f
+    pub weak-touches : (f : Feature) → ExtremeFeature cs u f → AtSupport (length cs) (supportAt front rest) f
     weak-touches Within none = absurd none
     weak-touches (AtCorner i) extreme = ⊎-elim
         (λ along. inr (inr (end-there i (extreme .known) along)))

@@ -1,17 +1,20 @@
--- The greatest gap of the corners is the Hausdorff distance.
+-- The greatest gap of the corners is the Hausdorff distance, squared.
 --     outward             the direction from the nearest point to a corner
 --     Extremes            it is one, and the corner and its nearest feature are both extreme in it
 --     greatest-extreme    so it is for a corner that has the greatest gap of its side, if it is outside the other piece
 --     corners-reach       Lemma 2 of report 83-442, for every position: no point of a piece has a greater gap than some corner
---     answer-none-nearer  no point of the other piece is nearer to a corner than the point of its gap
---     answer-hausdorff    the answer's gap is the Hausdorff distance
+--     gap-none-nearer     no point of the other piece is nearer to a corner than the point of its gap
+--     gap-positive        a gap has a lower number above 0
+--     greatest-directed   the greatest gap of a side's corners is the distance from its piece to the other, squared
+--     answer-hausdorff    the answer's gap is the Hausdorff distance, squared
 use Prim.Native.Nat.{ℕ, _<_}
-use mathlib.Core.Path.{_≡_, refl, sym, subst}
+use mathlib.Core.Path.{_≡_, refl, ap}
 use mathlib.Core.List.{List, [], _∷_, _++_}
 use lib.Dec.{ltb→lt}
 use lib.IntN.{ℤ, pos, natAbs}
 use lib.ListN.{length}
 use lib.Signed.{_≤ℤ_, _<ℤ_}
+use Rattle.integers.specs.declared.fraction.Fraction.{Fraction}
 use Rattle.integers.specs.Fraction.{NotGreater}
 use Rattle.integers.proofs.Order.{≰ℤ-<ℤ, natAbs-nonneg}
 use Rattle.integers.proofs.Polynomial.{var, _⊕_, _⊗_}
@@ -40,11 +43,11 @@ use Rattle.nearest.proofs.Scaling.{nearestAt-is, nearestAt-distance}
 use Rattle.nearest.proofs.Support.{corner-in-piece, support}
 use Rattle.nearest.proofs.Walk.{edge-test}
 use Rattle.hausdorff.specs.declared.Side.{Side}
-use Rattle.hausdorff.specs.declared.Worst.{Worst}
+use Rattle.hausdorff.specs.declared.CornerGap.{CornerGap}
 use Rattle.hausdorff.specs.Pair.{Pair, other, Polygons}
-use Rattle.hausdorff.specs.Worst.{gapOf}
+use Rattle.hausdorff.specs.CornerGap.{cornerGap}
 use Rattle.hausdorff.specs.Figure.{IsGap, IsAnswer}
-use Rattle.hausdorff.specs.Hausdorff.{NotBeyond, Hausdorff}
+use Rattle.hausdorff.specs.Hausdorff.{NotBeyond, AtMost, AtLeast, Directed, Hausdorff}
 use Rattle.plane.proofs.Halves.{NonZero}
 use Rattle.hausdorff.proofs.Extreme.{ExtremeCorner, ExtremeFeature, corner-extreme-iff}
 use Rattle.integers.proofs.FractionOrder.{notGreater-trans}
@@ -113,17 +116,21 @@ module _ (pair : Pair) (polygons : Polygons pair) where
     pub corner-extreme : ExtremeCorner (pair s) (outward s i) i
     pub feature-extreme : ExtremeFeature (pair (other s)) (outward s i) (feature (pair (other s)) (corner (pair s) i))
 
-  -- `gapOf` is the gap of the definition
-  gap-is : (s : Side) (i : ℕ) → i < length (pair s) → IsGap pair (gapOf pair s i)
+  -- `cornerGap` is the gap of the definition
+  gap-is : (s : Side) (i : ℕ) → i < length (pair s) → IsGap pair (cornerGap pair s i)
   gap-is s i below = record { known = below; answers = answers-iff (polygons (other s)) (corner (pair s) i) _ .1 refl }
 
   -- and the squared distance of its point
-  distance : (s : Side) (i : ℕ) → SquaredDistance (whole (corner (pair s) i)) (gapOf pair s i .point) (gapOf pair s i .gap)
+  distance : (s : Side) (i : ℕ) → SquaredDistance (whole (corner (pair s) i)) (cornerGap pair s i .point) (cornerGap pair s i .gap)
   distance s i = nearest-distance (polygons (other s)) (corner (pair s) i)
+
+  -- which has such a lower number
+  pub gap-positive : (s : Side) (i : ℕ) → 0 < cornerGap pair s i .gap .lower
+  gap-positive s i = ltb→lt 0 _ (distance s i .lower-positive .lt)
 
   -- were another corner ahead of it, that would have a greater gap
   pub greatest-extreme : (s : Side) (i : ℕ) → i < length (pair s) → Outside (pair (other s)) (whole (corner (pair s) i))
-      → ((j : ℕ) → j < length (pair s) → NotGreater (gapOf pair s j .gap) (gapOf pair s i .gap)) → Extremes s i
+      → ((j : ℕ) → j < length (pair s) → NotGreater (cornerGap pair s j .gap) (cornerGap pair s i .gap)) → Extremes s i
   greatest-extreme s i below outside greatest =
       let v = corner (pair s) i in let polygon = polygons (other s) in record {
         nonzero = ≰ℤ-<ℤ (λ close. outside (gap-zero-iff polygon v .0 (gap-zero (distance s i) close)));
@@ -135,7 +142,7 @@ module _ (pair : Pair) (polygons : Polygons pair) where
 
   -- p's gap is not greater than that of the corner that is extreme in the direction from its nearest point to p
   gap-reach : (s : Side) (p : Point) → InPiece (pair s) p
-      → (w : ℕ) × (w < length (pair s)) × NotGreater (nearestAt (pair (other s)) p .gap) (gapOf pair s w .gap)
+      → (w : ℕ) × (w < length (pair s)) × NotGreater (nearestAt (pair (other s)) p .gap) (cornerGap pair s w .gap)
   gap-reach s p inside =
       let polygon = polygons (other s) in let nearest = nearestAt-is polygon p (inside .proper) in
       let (w, below, extreme) = support (polygons s) (nearestAt (pair (other s)) p .point ⇢ p) in (
@@ -147,43 +154,49 @@ module _ (pair : Pair) (polygons : Polygons pair) where
 
   -- the same of points
   pub corners-reach : (s : Side) (p : Point) → InPiece (pair s) p
-      → (w : ℕ) × (w < length (pair s)) × NotBeyond (gapOf pair s w .gap) p (nearestAt (pair (other s)) p .point)
+      → (w : ℕ) × (w < length (pair s)) × NotBeyond (cornerGap pair s w .gap) p (nearestAt (pair (other s)) p .point)
   corners-reach s p inside =
       let (w, below, reach) = gap-reach s p inside in
-      (w, below, not-beyond (nearestAt-distance (polygons (other s)) p (inside .proper)) (gapOf pair s w .gap) reach)
+      (w, below, not-beyond (nearestAt-distance (polygons (other s)) p (inside .proper)) (cornerGap pair s w .gap) reach)
 
   -- a gap is that of the nearest point
-  pub answer-none-nearer : (w : Worst) → IsGap pair w → (z : Point) → InPiece (pair (other (w .side))) z
+  pub gap-none-nearer : (w : CornerGap) → IsGap pair w → (z : Point) → InPiece (pair (other (w .side))) z
       → NotFarther (whole (corner (pair (w .side)) (w .corner))) (w .point) z
-  answer-none-nearer w is z =
+  gap-none-nearer w is z =
       none-nearer (polygons (other (w .side))) (whole-proper (corner (pair (w .side)) (w .corner))) (is .answers .nearest)
 
-  -- by `gap-reach` the nearest point to p is within the answer's gap
-  within-answer : (w : Worst) → IsAnswer pair w → (s : Side) (p : Point) → InPiece (pair s) p
-      → (q : Point) × InPiece (pair (other s)) q × NotBeyond (w .gap) p q
-  within-answer w is s p inside =
+  -- where no corner of a side has a gap above g, no point of its piece has
+  at-most : (s : Side) (g : Fraction) → ((j : ℕ) → j < length (pair s) → NotGreater (cornerGap pair s j .gap) g)
+      → AtMost g (pair s) (pair (other s))
+  at-most s g most p inside =
       let polygon = polygons (other s) in let q = nearestAt (pair (other s)) p in let (k, below, reach) = gap-reach s p inside in
-      let most = is .greatest (gapOf pair s k) (gap-is s k below) in
-      let less = notGreater-trans (q .gap) (gapOf pair s k .gap) (w .gap) (ltb→lt 0 _ (distance s k .lower-positive .lt)) reach most in (
-        q .point,
-        nearestAt-is polygon p (inside .proper) .in-piece,
-        not-beyond (nearestAt-distance polygon p (inside .proper)) (w .gap) less,
-      )
+      let less = notGreater-trans (q .gap) (cornerGap pair s k .gap) g (gap-positive s k) reach (most k below) in
+      (q .point, nearestAt-is polygon p (inside .proper) .in-piece, not-beyond (nearestAt-distance polygon p (inside .proper)) g less)
 
-  -- and no point of the other piece is nearer to the answer's corner than that
-  pub answer-hausdorff : (w : Worst) → IsAnswer pair w → Hausdorff pair (w .gap)
+  -- and no point of the other piece is nearer to a corner than its gap
+  at-least : (s : Side) (i : ℕ) → i < length (pair s) → AtLeast (cornerGap pair s i .gap) (pair s) (pair (other s))
+  at-least s i below = (
+    whole (corner (pair s) i),
+    corner-in-piece (polygons s) i below,
+    λ q inside. not-nearer (distance s i) q (gap-none-nearer (cornerGap pair s i) (gap-is s i below) q inside),
+  )
+
+  pub greatest-directed : (s : Side) (i : ℕ) → i < length (pair s)
+      → ((j : ℕ) → j < length (pair s) → NotGreater (cornerGap pair s j .gap) (cornerGap pair s i .gap))
+      → Directed (pair s) (pair (other s)) (cornerGap pair s i .gap)
+  greatest-directed s i below greatest = record {
+    lower-positive = gap-positive s i;
+    at-most = at-most s (cornerGap pair s i .gap) greatest;
+    at-least = at-least s i below;
+  }
+
+  pub answer-hausdorff : (w : CornerGap) → IsAnswer pair w → Hausdorff pair (w .gap)
   answer-hausdorff w is =
-      let s = w .side in let i = w .corner in let v = corner (pair s) i in
-      let here : SquaredDistance (whole v) (w .point) (w .gap) =
-      subst (λ (a : NearestPoint). SquaredDistance (whole v) (a .point) (a .gap))
-      (sym (answers-iff (polygons (other s)) v _ .0 (is .is-gap .answers))) (distance s i) in
+      let s = w .side in let i = w .corner in
+      let same : w .gap ≡ cornerGap pair s i .gap =
+      ap (λ (a : NearestPoint). a .gap) (answers-iff (polygons (other s)) (corner (pair s) i) _ .0 (is .is-gap .answers)) in
       record {
-        lower-positive = here .lower-positive;
-        within-gap = within-answer w is;
-        reached = (
-          s,
-          whole v,
-          corner-in-piece (polygons s) i (is .is-gap .known),
-          λ q inside. not-nearer here q (answer-none-nearer w (is .is-gap) q inside),
-        );
+        lower-positive = rw same (gap-positive s i);
+        at-most = λ t. at-most t (w .gap) (λ j below. is .greatest (cornerGap pair t j) (gap-is t j below));
+        at-least = (s, rw same (at-least s i (is .is-gap .known)));
       }

@@ -2,7 +2,7 @@
 --     ExtremeCorner    the edge into corner i does not fall in the direction u, and the edge out of it does not rise
 --     ExtremeEdge      u is normal to edge i and points outward
 --     ExtremeFeature   one of the two
---     Touches          a feature is support corner b, one of its two neighbours, or one of the two edges that meet there
+--     AtSupport          a feature is support corner b, one of its two neighbours, or one of the two edges that meet there
 -- For a polygon these are what the words say:
 --     corner-extreme-iff    no corner lies farther in the direction u than corner i
 --     edge-extreme-iff      both ends of edge i are extreme in u
@@ -45,10 +45,10 @@ ExtremeFeature cs u Within = ⊥
 ExtremeFeature cs u (AtCorner i) = ExtremeCorner cs u i
 ExtremeFeature cs u (OnEdge i) = ExtremeEdge cs u i
 
-abbrev pub Touches : ℕ → ℕ → Feature → Type 0
-Touches n b Within = ⊥
-Touches n b (AtCorner i) = (i ≡ b) ⊎ (i ≡ next n b) ⊎ (next n i ≡ b)
-Touches n b (OnEdge i) = (i ≡ b) ⊎ (next n i ≡ b)
+abbrev pub AtSupport : ℕ → ℕ → Feature → Type 0
+AtSupport n b Within = ⊥
+AtSupport n b (AtCorner i) = (i ≡ b) ⊎ (i ≡ next n b) ⊎ (next n i ≡ b)
+AtSupport n b (OnEdge i) = (i ≡ b) ⊎ (next n i ≡ b)
 
 -- what does not fall from p to q does not rise from q to p
 dot-forth : (u : Vector) (p q : Corner) → pos 0 ≤ℤ dot u (p ⇀ q) → dot u (q ⇀ p) ≤ℤ pos 0

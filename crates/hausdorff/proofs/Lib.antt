@@ -12,5 +12,6 @@ pub mod HalfPlane
 pub mod DistanceLaws
 pub mod Preference
 pub mod WorstLaws
+pub mod SideWorst
 pub mod AnswerLaws
 pub mod Law

@@ -5,7 +5,7 @@
 --     own-iff            a side's own edges in a list are those of the list that are of that side
 --     own-members        a side's own edges in it are all its edges
 --     own-rising         their directions rise
---     own-cyclic         each is followed by the one that starts where it ends, and the last by the first
+--     Cyclic, own-cyclic    each is followed by the one that starts where it ends, and the last by the first
 use Prim.Native.Nat.{ℕ, zero, suc, _<_}
 use native.Mathlib.Decide.{ℕ-discrete}
 use native.Mathlib.Nat.{eq-or-lt-of-le, le-of-suc-le-suc}
@@ -29,7 +29,7 @@ use Rattle.hausdorff.specs.declared.Side.{Side}
 use Rattle.hausdorff.specs.declared.Side.the-variants.{A, B}
 use Rattle.hausdorff.specs.Pair.{Pair, sameSide, stepCount}
 use Rattle.hausdorff.specs.AngularOrder.{PairEdge, direction, isAThenB, precedes, edgesBelow, allEdges, angularOrder}
-use Rattle.hausdorff.specs.AngularOrder.{ownFirst, own, headOr, Cyclic}
+use Rattle.hausdorff.specs.AngularOrder.{ownFirst, own, headOr}
 use Rattle.plane.proofs.Halves.{NonZero}
 use Rattle.plane.proofs.DirectionLaws.{Before, before-asym, before-trans, before-split, same-iff}
 use Rattle.hausdorff.proofs.GoesRound.{GoesRound}
@@ -38,6 +38,11 @@ use Rattle.hausdorff.proofs.SortLaws.{related-cons, related-map, arrang
 -- both outlines' directions go round once
 abbrev pub Rounds : Pair → Type 0
 Rounds pair = (s : Side) → GoesRound (length (pair s)) (edge (pair s))
+
+-- each edge is followed by the one that starts where it ends, and the last one by z
+abbrev pub Cyclic : ℕ → ℕ → List ℕ → Type 0
+Cyclic n z [] = Unit {0}
+Cyclic n z (i ∷ is) = (next n i ≡ headOr z is) × Cyclic n z is
 
 -- The sides are two.
 A-not-B : A ≢ B

@@ -3,7 +3,6 @@
 --     preferred-refl, preferred-trans     it is a preorder, on gaps with a lower number above 0
 --     taken-preferred                     what `takesPlace` takes is preferred over what it leaves
 --     Foremost, foremost                  a number below n that is preferred over all below n; there is one, unless n is 0
---     gap-positive                        the gap of a corner has a lower number above 0
 --     least-iff                           a gap is not greater than that of a corner within exactly where its own corner is within
 use Prim.Native.Nat.{ℕ, zero, suc, _<_, _≤_}
 use mathlib.Core.Path.{_≡_, refl}
@@ -13,35 +12,37 @@ use native.Mathlib.Decide.{ℕ-discrete}
 use native.Mathlib.Nat.{zero-mul, mul-pos, eq-zero-or-pos}
 use native.Mathlib.Omega.{arith}
 use borrow.Author.Tests.{ltb-true, ltb-false}
-use lib.Dec.{ltb, ltb→lt}
+use lib.Dec.{ltb}
 use Rattle.integers.specs.declared.fraction.Fraction.{Fraction}
 use Rattle.integers.specs.Fraction.{isLess, NotGreater}
 use Rattle.plane.specs.Point.{whole}
 use Rattle.outline.specs.Corners.{corner}
 use Rattle.nearest.specs.Piece.{InPiece}
-use Rattle.nearest.proofs.AnswerLaws.{nearest-distance, gap-zero-iff}
+use Rattle.nearest.proofs.AnswerLaws.{gap-zero-iff}
 use Rattle.hausdorff.specs.declared.Side.{Side}
-use Rattle.hausdorff.specs.declared.Worst.{Worst}
+use Rattle.hausdorff.specs.declared.CornerGap.{CornerGap}
 use Rattle.hausdorff.specs.Pair.{Pair, other, Polygons}
-use Rattle.hausdorff.specs.Worst.{gapOf, takesPlace}
+use Rattle.hausdorff.specs.CornerGap.{cornerGap}
+use Rattle.hausdorff.specs.Worst.{takesPlace}
+use Rattle.hausdorff.proofs.DistanceLaws.{gap-positive}
 use Rattle.integers.proofs.FractionOrder.{notGreater-refl, notGreater-trans, isLess-true, isLess-false, less-notGreater}
 
-pub record Preferred (shown : ℕ → ℕ) (w z : Worst) : Type 0 where
+pub record Preferred (shown : ℕ → ℕ) (w z : CornerGap) : Type 0 where
   pub not-less : NotGreater (z .gap) (w .gap)
   pub first : NotGreater (w .gap) (z .gap) → shown (w .corner) ≤ shown (z .corner)
 
-pub record Foremost (shown : ℕ → ℕ) (f : ℕ → Worst) (n : ℕ) : Type 0 where
+pub record Foremost (shown : ℕ → ℕ) (f : ℕ → CornerGap) (n : ℕ) : Type 0 where
   pub place : ℕ
   pub below : place < n
   pub preferred : (i : ℕ) → i < n → Preferred shown (f place) (f i)
 
 module _ (shown : ℕ → ℕ) where
   -- a corner is preferred over itself
-  pub preferred-refl : (w : Worst) → Preferred shown w w
+  pub preferred-refl : (w : CornerGap) → Preferred shown w w
   preferred-refl w = record { not-less = notGreater-refl (w .gap); first = λ _. omega arith }
 
   -- and preference is transitive
-  pub preferred-trans : (w x z : Worst) → 0 < w .gap .lower → 0 < x .gap .lower → 0 < z .gap .lower
+  pub preferred-trans : (w x z : CornerGap) → 0 < w .gap .lower → 0 < x .gap .lower → 0 < z .gap .lower
       → Preferred shown w x → Preferred shown x z → Preferred shown w z
   preferred-trans w x z w-some x-some z-some p q = record {
     not-less = notGreater-trans (z .gap) (x .gap) (w .gap) x-some (q .not-less) (p .not-less);
@@ -52,7 +53,7 @@ module _ (shown : ℕ → ℕ) where
   }
 
   -- by the three tests that `takesPlace` makes
-  pub taken-preferred : (new old : Worst)
+  pub taken-preferred : (new old : CornerGap)
       → Preferred shown (cond (takesPlace shown new old) new old) (cond (takesPlace shown new old) old new)
   taken-preferred new old =
       let n = new .gap in let o = old .gap in
@@ -71,9 +72,9 @@ module _ (shown : ℕ → ℕ) where
       go false false true _ _ _ not-greater lower = record { not-less = not-greater refl; first = λ _. omega (arith, ltb-true) }
       go false false false _ not-less _ _ not-lower = record { not-less = not-less refl; first = λ _. omega (arith, ltb-false) }
 
-  module _ (f : ℕ → Worst) (positive : (i : ℕ) → 0 < f i .gap .lower) where
+  module _ (f : ℕ → CornerGap) (positive : (i : ℕ) → 0 < f i .gap .lower) where
     -- what is preferred over all below n and over n is preferred over all below n + 1
-    one-more : (n : ℕ) (w : Worst) → ((i : ℕ) → i < n → Preferred shown w (f i)) → Preferred shown w (f n)
+    one-more : (n : ℕ) (w : CornerGap) → ((i : ℕ) → i < n → Preferred shown w (f i)) → Preferred shown w (f n)
         → (i : ℕ) → i < suc n → Preferred shown w (f i)
     one-more n w earlier last i below = elim (ℕ-discrete i n) [ yes e ↦ rw e last | no other ↦ earlier i (omega arith) ]
 
@@ -114,14 +115,10 @@ not-above-0 f g some none = (
 )
 
 module _ (pair : Pair) (polygons : Polygons pair) where
-  -- a gap is a squared distance, which has such a lower number
-  pub gap-positive : (s : Side) (i : ℕ) → 0 < gapOf pair s i .gap .lower
-  gap-positive s i = let above = nearest-distance (polygons (other s)) (corner (pair s) i) .lower-positive .lt in ltb→lt 0 _ above
-
   -- a gap that is not greater than that of a corner within is that of a corner within
   pub least-iff : (s t : Side) (i j : ℕ) → InPiece (pair (other t)) (whole (corner (pair t) j))
-      → NotGreater (gapOf pair s i .gap) (gapOf pair t j .gap) ↔ InPiece (pair (other s)) (whole (corner (pair s) i))
+      → NotGreater (cornerGap pair s i .gap) (cornerGap pair t j .gap) ↔ InPiece (pair (other s)) (whole (corner (pair s) i))
   least-iff s t i j inside = Iff·trans
-      (not-above-0 (gapOf pair s i .gap) (gapOf pair t j .gap) (gap-positive t j)
+      (not-above-0 (cornerGap pair s i .gap) (cornerGap pair t j .gap) (gap-positive pair polygons t j)
       (gap-zero-iff (polygons (other t)) (corner (pair t) j) .1 inside))
       (gap-zero-iff (polygons (other s)) (corner (pair s) i))

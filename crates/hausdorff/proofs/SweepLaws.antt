@@ -22,12 +22,12 @@ use Rattle.nearest.specs.Piece.{edge}
 use Rattle.hausdorff.specs.declared.Side.{Side}
 use Rattle.hausdorff.specs.declared.Side.the-variants.{A}
 use Rattle.hausdorff.specs.Pair.{Pair, other, sameSide, stepCount}
-use Rattle.hausdorff.specs.AngularOrder.{PairEdge, direction, angularOrder, ownFirst, own, headOr, Cyclic}
+use Rattle.hausdorff.specs.AngularOrder.{PairEdge, direction, angularOrder, ownFirst, own, headOr}
 use Rattle.hausdorff.specs.Sweep.{Sweep, begin, passed, step, steps, after}
 use Rattle.plane.proofs.Halves.{NonZero}
 use Rattle.plane.proofs.DirectionLaws.{along?}
-use Rattle.hausdorff.proofs.OrderLaws.{Rounds, order-members, order-length, order-rising, own-members, own-rising, own-cyclic, own-iff}
-use Rattle.hausdorff.proofs.Extreme.{ExtremeCorner, ExtremeFeature, Touches}
+use Rattle.hausdorff.proofs.OrderLaws.{Cyclic, Rounds, order-members, order-length, order-rising, own-members, own-rising, own-cyclic, own-iff}
+use Rattle.hausdorff.proofs.Extreme.{ExtremeCorner, ExtremeFeature, AtSupport}
 use Rattle.hausdorff.proofs.ExtremeLaws.{turned, turned-some, corner-around}
 use Rattle.hausdorff.proofs.Cut.{Cut, strict, weak, Divided, divide, headOr-head, CutAt, supportAt}
 use Rattle.hausdorff.proofs.Cut.{strict-support, weak-end, strict-touches, weak-touches}
@@ -146,7 +146,7 @@ module _ (pair : Pair) (rounds : Rounds pair) where
   module _ (u : Vector) (some : NonZero u) where
     -- A corner that an edge with t's direction ends at is the support corner at the weak cut, and any other at the strict cut.
     pub meets-corner : (s : Side) (i : ℕ) (f : Feature) → ExtremeCorner (pair s) u i → ExtremeFeature (pair (other s)) u f
-        → Met pair (λ support. (support s ≡ i) × Touches (length (pair (other s))) (support (other s)) f)
+        → Met pair (λ support. (support s ≡ i) × AtSupport (length (pair (other s))) (support (other s)) f)
         (angularOrder pair) (begin pair .support)
     meets-corner s i f extreme also =
         let t = turned u in let o = other s in ⊎-elim
@@ -161,7 +161,7 @@ module _ (pair : Pair) (rounds : Rounds pair) where
         (along? (edge (pair s) (previous (length (pair s)) i)) t)
 
     pub meets-features : (s : Side) (f g : Feature) → ExtremeFeature (pair s) u f → ExtremeFeature (pair (other s)) u g
-        → Met pair (λ support. Touches (length (pair s)) (support s) f × Touches (length (pair (other s))) (support (other s)) g)
+        → Met pair (λ support. AtSupport (length (pair s)) (support s) f × AtSupport (length (pair (other s))) (support (other s)) g)
         (angularOrder pair) (begin pair .support)
     meets-features s f g extreme also =
         let t = turned u in let o = other s in

@@ -1,10 +1,13 @@
--- The worst so far of each side.
+-- The worst so far of each side is the greatest gap that has been counted, under the rule for equals, or none.
 --     IsOutsideCorner, StoredAs, Stored    what may be stored for a side: none, or the true gap of a corner of it that is not within
 --     stored                               only that is stored, after any number of steps
---     PreferredCorner, SideWorst           after all steps: none if every corner of the side is within, else the preferred corner
---     side-worst                           that is what the sweep finds
+--     Counts, Counted                      a corner counts before a step; it counts in some step up to k
+--     GreatestCounted, WorstAfter          what document 01 asks of the worst so far after k steps
+--     worst-after                          that is what is stored
+--     stored-over                          what is preferred over something stored is preferred over what that is preferred over
+--     met-counted                          a corner that is met by its nearest feature counts
 use Prim.Native.Nat.{ℕ, _<_}
-use mathlib.Core.Path.{_≡_, refl}
+use mathlib.Core.Path.{_≡_, refl, subst}
 use mathlib.Core.Logic.{_⊎_, inl, inr}
 use mathlib.Core.Bool.{Bool, true, false, cond, _&&_}
 use mathlib.Core.List.{List, [], _∷_}
@@ -14,48 +17,63 @@ use lib.Seq.{take-length}
 use Rattle.plane.specs.Point.{whole}
 use Rattle.outline.specs.Corners.{corner, next}
 use Rattle.outline.proofs.CornersLaws.{next-below}
-use Rattle.nearest.specs.Piece.{InPiece, Outside, isOutside}
+use Rattle.nearest.specs.Piece.{Outside, isOutside}
 use Rattle.nearest.specs.Local.{feature}
-use Rattle.nearest.proofs.PieceLaws.{outside-test, inside-test}
+use Rattle.nearest.proofs.PieceLaws.{outside-test}
 use Rattle.hausdorff.specs.declared.Side.{Side}
-use Rattle.hausdorff.specs.declared.Worst.{Worst}
+use Rattle.hausdorff.specs.declared.CornerGap.{CornerGap}
 use Rattle.hausdorff.specs.declared.WorstSoFar.{WorstSoFar}
 use Rattle.hausdorff.specs.declared.WorstSoFar.the-variants.{None, Worst as Some}
 use Rattle.hausdorff.specs.Pair.{Pair, other, sameSide, stepCount, Polygons}
 use Rattle.hausdorff.specs.AngularOrder.{PairEdge, angularOrder}
 use Rattle.hausdorff.specs.Counting.{isCounted}
-use Rattle.hausdorff.specs.Worst.{gapOf, shownNumber, takesPlace, keep}
+use Rattle.hausdorff.specs.CornerGap.{cornerGap}
+use Rattle.hausdorff.specs.Worst.{shownNumber, takesPlace, keep}
 use Rattle.hausdorff.specs.Sweep.{Sweep, begin, measured, passed, step, steps, after}
 use Rattle.hausdorff.proofs.GoesRound.{polygon-goes-round}
 use Rattle.hausdorff.proofs.OrderLaws.{Rounds, order-length}
-use Rattle.hausdorff.proofs.Extreme.{Touches}
-use Rattle.hausdorff.proofs.SweepLaws.{Met, support-below, meets-corner}
+use Rattle.hausdorff.proofs.Extreme.{AtSupport}
+use Rattle.hausdorff.proofs.SweepLaws.{Met, support-below}
 use Rattle.hausdorff.proofs.CountingLaws.{counted-iff}
-use Rattle.hausdorff.proofs.DistanceLaws.{outward, greatest-extreme}
-use Rattle.hausdorff.proofs.Preference.{Preferred, preferred-refl, preferred-trans, taken-preferred, Foremost, foremost}
-use Rattle.hausdorff.proofs.Preference.{gap-positive, least-iff}
+use Rattle.hausdorff.proofs.DistanceLaws.{gap-positive}
+use Rattle.hausdorff.proofs.Preference.{Preferred, preferred-refl, preferred-trans, taken-preferred}
 
 -- a corner of the side that is not within the other piece
 pub record IsOutsideCorner (pair : Pair) (s : Side) (i : ℕ) : Type 0 where
   pub known : i < length (pair s)
   pub outside : Outside (pair (other s)) (whole (corner (pair s) i))
 
-pub record StoredAs (pair : Pair) (s : Side) (w : Worst) : Type 0 where
+pub record StoredAs (pair : Pair) (s : Side) (w : CornerGap) : Type 0 where
   pub number : ℕ
   pub is-outside : IsOutsideCorner pair s number
-  pub is : w ≡ gapOf pair s number
+  pub is : w ≡ cornerGap pair s number
 
 abbrev pub Stored : Pair → Side → WorstSoFar → Type 0
 Stored pair s None = Unit {0}
 Stored pair s (Some w) = StoredAs pair s w
 
-pub record PreferredCorner (pair : Pair) (s : Side) (w : Worst) : Type 0 where
-  pub stored : StoredAs pair s w
-  pub preferred : (j : ℕ) → j < length (pair s) → Preferred (shownNumber s) w (gapOf pair s j)
+-- corner i is the side's support corner, and counts
+abbrev pub Counts : Pair → Side → ℕ → (Side → ℕ) → Type 0
+Counts pair s i support = (support s ≡ i) × (isCounted (pair (other s)) (support (other s)) (corner (pair s) i) ≡ true)
 
-abbrev pub SideWorst : Pair → Side → WorstSoFar → Type 0
-SideWorst pair s None = (i : ℕ) → i < length (pair s) → InPiece (pair (other s)) (whole (corner (pair s) i))
-SideWorst pair s (Some w) = PreferredCorner pair s w
+-- it counts in some step up to k
+abbrev pub Counted : Pair → Side → ℕ → ℕ → Type 0
+Counted pair s k i = Met pair (Counts pair s i) (take k (angularOrder pair)) (begin pair .support)
+
+-- the greatest counted gap, of equals the corner with the lowest shown number
+pub record GreatestCounted (pair : Pair) (s : Side) (k : ℕ) (w : CornerGap) : Type 0 where
+  pub number : ℕ
+  pub counted : Counted pair s k number
+  pub is : w ≡ cornerGap pair s number
+  pub preferred : (j : ℕ) → Counted pair s k j → Preferred (shownNumber pair s) w (cornerGap pair s j)
+
+abbrev pub WorstAfter : Pair → Side → ℕ → WorstSoFar → Type 0
+WorstAfter pair s k None = (i : ℕ) → ¬ Counted pair s k i
+WorstAfter pair s k (Some w) = GreatestCounted pair s k w
+
+-- none is not a corner
+none-some : {w : CornerGap} → ¬ (None ≡ Some w)
+none-some is = let z : _≡_ {A = ℕ} 0 1 = cc in omega arith
 
 -- both support corners are corners of their outlines
 abbrev Supported : Pair → (Side → ℕ) → Type 0
@@ -69,7 +87,7 @@ record Running (pair : Pair) (s : Side) (sweep : Sweep) : Type 0 where
 -- the corner that is stored, if any, is preferred over corner i
 abbrev AtLeast : Pair → Side → ℕ → WorstSoFar → Type 0
 AtLeast pair s i None = ⊥
-AtLeast pair s i (Some w) = Preferred (shownNumber s) w (gapOf pair s i)
+AtLeast pair s i (Some w) = Preferred (shownNumber pair s) w (cornerGap pair s i)
 
 module _ (pair : Pair) (polygons : Polygons pair) where
   -- passing an edge leads to a corner of its outline
@@ -91,7 +109,7 @@ module _ (pair : Pair) (polygons : Polygons pair) where
     measured-stored support known = go (isOutside (pair (other s)) (corner (pair s) (support s))) _ refl
       where
         go : (t u : Bool) → isOutside (pair (other s)) (corner (pair s) (support s)) ≡ t
-            → Stored pair s (cond (t && u) (Some (gapOf pair s (support s))) None)
+            → Stored pair s (cond (t && u) (Some (cornerGap pair s (support s))) None)
         go true true outside = record {
           number = support s;
           is-outside = record { known = known s; outside = outside-test (pair (other s)) (corner (pair s) (support s)) .0 outside };
@@ -101,34 +119,34 @@ module _ (pair : Pair) (polygons : Polygons pair) where
         go false u outside = tt
 
     -- what is kept is one of the two
-    keep-stored : (old new : WorstSoFar) → Stored pair s old → Stored pair s new → Stored pair s (keep (shownNumber s) old new)
+    keep-stored : (old new : WorstSoFar) → Stored pair s old → Stored pair s new → Stored pair s (keep (shownNumber pair s) old new)
     keep-stored None new was is = is
     keep-stored (Some old) None was is = was
-    keep-stored (Some old) (Some new) was is = go (takesPlace (shownNumber s) new old)
+    keep-stored (Some old) (Some new) was is = go (takesPlace (shownNumber pair s) new old)
       where
         go : (t : Bool) → StoredAs pair s (cond t new old)
         go true = is
         go false = was
 
     -- what is stored is a gap, so preference is transitive on it
-    stored-positive : {w : Worst} → StoredAs pair s w → 0 < w .gap .lower
+    stored-positive : {w : CornerGap} → StoredAs pair s w → 0 < w .gap .lower
     stored-positive is = rw (is .is) (gap-positive pair polygons s (is .number))
 
-    stored-over : (i : ℕ) (w x : Worst) → StoredAs pair s w → StoredAs pair s x → Preferred (shownNumber s) w x
-        → Preferred (shownNumber s) x (gapOf pair s i) → Preferred (shownNumber s) w (gapOf pair s i)
+    pub stored-over : (i : ℕ) (w x : CornerGap) → StoredAs pair s w → StoredAs pair s x → Preferred (shownNumber pair s) w x
+        → Preferred (shownNumber pair s) x (cornerGap pair s i) → Preferred (shownNumber pair s) w (cornerGap pair s i)
     stored-over i w x p q =
-        preferred-trans (shownNumber s) w x (gapOf pair s i) (stored-positive p) (stored-positive q) (gap-positive pair polygons s i)
+        preferred-trans (shownNumber pair s) w x (cornerGap pair s i) (stored-positive p) (stored-positive q) (gap-positive pair polygons s i)
 
     -- what is kept is preferred over what either was preferred over
     keep-at-least : (i : ℕ) (old new : WorstSoFar) → Stored pair s old → Stored pair s new
-        → AtLeast pair s i old ⊎ AtLeast pair s i new → AtLeast pair s i (keep (shownNumber s) old new)
+        → AtLeast pair s i old ⊎ AtLeast pair s i new → AtLeast pair s i (keep (shownNumber pair s) old new)
     keep-at-least i None new was is found = elim found [ inl none ↦ absurd none | inr p ↦ p ]
     keep-at-least i (Some old) None was is found = elim found [ inl p ↦ p | inr none ↦ absurd none ]
     keep-at-least i (Some old) (Some new) was is found =
-        go (takesPlace (shownNumber s) new old) (taken-preferred (shownNumber s) new old)
+        go (takesPlace (shownNumber pair s) new old) (taken-preferred (shownNumber pair s) new old)
       where
-        go : (t : Bool) → Preferred (shownNumber s) (cond t new old) (cond t old new)
-            → Preferred (shownNumber s) (cond t new old) (gapOf pair s i)
+        go : (t : Bool) → Preferred (shownNumber pair s) (cond t new old) (cond t old new)
+            → Preferred (shownNumber pair s) (cond t new old) (cornerGap pair s i)
         go true better = elim found [ inl p ↦ stored-over i new old is was better p | inr p ↦ p ]
         go false better = elim found [ inl p ↦ p | inr p ↦ stored-over i old new was is better p ]
 
@@ -154,20 +172,54 @@ module _ (pair : Pair) (polygons : Polygons pair) where
       holds = tt;
     }
 
-    -- corner i is the support corner in a step in which its nearest feature meets the other support corner
-    abbrev Meets : ℕ → (Side → ℕ) → Type 0
-    Meets i support = (support s ≡ i) × Touches (length (pair (other s))) (support (other s)) (feature (pair (other s)) (corner (pair s) i))
+    -- nothing is stored before step 1
+    begin-none : {w : CornerGap} → ¬ (begin pair .worst s ≡ Some w)
+    unfolding begin
+    begin-none is = none-some is
 
-    -- then it counts, and what is measured is it
-    measured-at-least : (i : ℕ) (support : Side → ℕ) → Supported pair support → Meets i support → AtLeast pair s i (measured pair support s)
+    -- what is kept is one of the two
+    keep-one : (old new : WorstSoFar) {w : CornerGap} → keep (shownNumber pair s) old new ≡ Some w → (old ≡ Some w) ⊎ (new ≡ Some w)
+    keep-one None new is = inr is
+    keep-one (Some old) None is = inl is
+    keep-one (Some old) (Some new) {w} is = go (takesPlace (shownNumber pair s) new old) is
+      where
+        go : (t : Bool) → Some (cond t new old) ≡ Some w → (Some old ≡ Some w) ⊎ (Some new ≡ Some w)
+        go true e = inr e
+        go false e = inl e
+
+    -- what is measured counts
+    measured-counts : (support : Side → ℕ) {w : CornerGap} → measured pair support s ≡ Some w
+        → Counts pair s (support s) support × (w ≡ cornerGap pair s (support s))
     unfolding measured
-    measured-at-least i support known (is, touches) =
-        rw (is, counted-iff (polygons (other s)) (support (other s)) (known (other s)) (corner (pair s) i) .1 touches)
-        (preferred-refl (shownNumber s) (gapOf pair s i))
+    measured-counts support {w} = go (isCounted (pair (other s)) (support (other s)) (corner (pair s) (support s))) refl
+      where
+        go : (t : Bool) → isCounted (pair (other s)) (support (other s)) (corner (pair s) (support s)) ≡ t
+            → cond t (Some (cornerGap pair s (support s))) None ≡ Some w
+            → Counts pair s (support s) support × (w ≡ cornerGap pair s (support s))
+        go true counts is = ((refl, counts), cc)
+        go false none is = absurd (none-some is)
+
+    -- and what counts is measured
+    counts-measured : (i : ℕ) (support : Side → ℕ) → Counts pair s i support → AtLeast pair s i (measured pair support s)
+    unfolding measured
+    counts-measured i support (is, counts) = rw (is, counts) (preferred-refl (shownNumber pair s) (cornerGap pair s i))
+
+    -- what is stored was stored before or has been counted
+    found-counted : (es : List PairEdge) (sweep : Sweep) {w : CornerGap} → steps pair es sweep .worst s ≡ Some w
+        → (sweep .worst s ≡ Some w) ⊎ ((i : ℕ) × Met pair (Counts pair s i) es (sweep .support) × (w ≡ cornerGap pair s i))
+    unfolding steps step
+    found-counted [] sweep is = inl is
+    found-counted (e ∷ es) sweep is = elim (found-counted es (step pair e sweep) is) [
+      | inl kept ↦ elim (keep-one (sweep .worst s) (measured pair (sweep .support) s) kept) [
+        | inl before ↦ inl before
+        | inr here ↦ let (counts, same) = measured-counts (sweep .support) here in inr (sweep .support s, inl counts, same)
+      ]
+      | inr (i, later, same) ↦ inr (i, inr later, same)
+    ]
 
     -- a corner that one stored before is preferred over, or that is still to be met, is in the end no worse than what is stored
     steps-at-least : (i : ℕ) (es : List PairEdge) (sweep : Sweep) → Running pair s sweep
-        → AtLeast pair s i (sweep .worst s) ⊎ Met pair (Meets i) es (sweep .support) → AtLeast pair s i (steps pair es sweep .worst s)
+        → AtLeast pair s i (sweep .worst s) ⊎ Met pair (Counts pair s i) es (sweep .support) → AtLeast pair s i (steps pair es sweep .worst s)
     unfolding steps step
     steps-at-least i [] sweep running found = elim found [ inl p ↦ p | inr none ↦ absurd none ]
     steps-at-least i (e ∷ es) sweep running found =
@@ -175,62 +227,51 @@ module _ (pair : Pair) (polygons : Polygons pair) where
         (elim found [
           | inl p ↦ inl (kept (inl p))
           | inr later ↦ elim later [
-            | inl here ↦ inl (kept (inr (measured-at-least i (sweep .support) (running .known) here)))
+            | inl here ↦ inl (kept (inr (counts-measured i (sweep .support) here)))
             | inr met ↦ inr met
           ]
         ])
       where
         kept : AtLeast pair s i (sweep .worst s) ⊎ AtLeast pair s i (measured pair (sweep .support) s)
-            → AtLeast pair s i (keep (shownNumber s) (sweep .worst s) (measured pair (sweep .support) s))
+            → AtLeast pair s i (keep (shownNumber pair s) (sweep .worst s) (measured pair (sweep .support) s))
         kept = keep-at-least i (sweep .worst s) (measured pair (sweep .support) s) (running .holds)
             (measured-stored (sweep .support) (running .known))
 
   pub stored : (k : ℕ) (s : Side) → Stored pair s (after pair k .worst s)
   stored k s = steps-running s (take k (angularOrder pair)) (begin pair) (begin-running s) .holds
 
-  -- nothing is stored for a side of which every corner is within
-  none-stored : (s : Side) → SideWorst pair s None → (x : WorstSoFar) → Stored pair s x → SideWorst pair s x
-  none-stored s within None is = within
-  none-stored s within (Some w) is = absurd (is .is-outside .outside (within (is .number) (is .is-outside .known)))
+  -- a corner that counts in some step up to k is no worse than what is stored then
+  counted-at-least : (k : ℕ) (s : Side) (i : ℕ) → Counted pair s k i → AtLeast pair s i (after pair k .worst s)
+  counted-at-least k s i counted = steps-at-least s i (take k (angularOrder pair)) (begin pair) (begin-running s) (inr counted)
 
-  module _ (s : Side) (best : Foremost (shownNumber s) (gapOf pair s) (length (pair s)))
-      (is-outside : IsOutsideCorner pair s (best .place)) where
-    -- The preferred corner, if it is outside, is extreme, and so it is met in the sweep.
-    best-met : AtLeast pair s (best .place) (after pair (stepCount pair) .worst s)
-    best-met =
-        let i = best .place in
-        let extremes = greatest-extreme pair polygons s i (is-outside .known) (is-outside .outside)
-        (λ j below. best .preferred j below .not-less) in
-        rw (← order-length pair, take-length (angularOrder pair))
-        (steps-at-least s i (angularOrder pair) (begin pair) (begin-running s)
-        (inr (meets-corner pair rounds (outward pair polygons s i) (extremes .nonzero) s i (feature (pair (other s)) (corner (pair s) i))
-        (extremes .corner-extreme) (extremes .feature-extreme))))
-
-    -- What is stored is then preferred over it, and so over all.
-    best-stored : (x : WorstSoFar) → Stored pair s x → AtLeast pair s (best .place) x → SideWorst pair s x
-    best-stored None is none = absurd none
-    best-stored (Some w) is over = record {
-      stored = is;
-      preferred = λ j below. stored-over s j w (gapOf pair s (best .place)) is
-          (record { number = best .place; is-outside = is-outside; is = refl }) over (best .preferred j below);
-    }
-
-  -- The preferred corner of the side is within, and so are all, or it is outside.
-  pub side-worst : (s : Side) → SideWorst pair s (after pair (stepCount pair) .worst s)
-  side-worst s = go (isOutside (pair (other s)) (corner (pair s) (best .place))) refl
+  pub worst-after : (k : ℕ) (s : Side) → WorstAfter pair s k (after pair k .worst s)
+  worst-after k s = go (after pair k .worst s) refl
     where
-      best : Foremost (shownNumber s) (gapOf pair s) (length (pair s))
-      best = foremost (shownNumber s) (gapOf pair s) (gap-positive pair polygons s) (length (pair s)) (omega (arith, polygons s .at-least))
+      over : (x : WorstSoFar) → after pair k .worst s ≡ x → (i : ℕ) → Counted pair s k i → AtLeast pair s i x
+      over x is i counted = subst (AtLeast pair s i) is (counted-at-least k s i counted)
 
-      go : (t : Bool) → isOutside (pair (other s)) (corner (pair s) (best .place)) ≡ t
-          → SideWorst pair s (after pair (stepCount pair) .worst s)
-      go true holds =
-          let is-outside : IsOutsideCorner pair s (best .place) = record {
-            known = best .below;
-            outside = outside-test (pair (other s)) (corner (pair s) (best .place)) .0 holds;
-          } in
-          best-stored s best is-outside (after pair (stepCount pair) .worst s) (stored (stepCount pair) s) (best-met s best is-outside)
-      go false fails =
-          let inside = inside-test (pair (other s)) (corner (pair s) (best .place)) .0 fails in
-          none-stored s (λ i below. least-iff pair polygons s s i (best .place) inside .0 (best .preferred i below .not-less))
-          (after pair (stepCount pair) .worst s) (stored (stepCount pair) s)
+      go : (x : WorstSoFar) → after pair k .worst s ≡ x → WorstAfter pair s k x
+      go None is = λ i counted. over None is i counted
+      go (Some w) is = elim (found-counted s (take k (angularOrder pair)) (begin pair) is) [
+        | inl before ↦ absurd (begin-none s before)
+        | inr (i, counted, same) ↦ record { number = i; counted = counted; is = same; preferred = over (Some w) is }
+      ]
+
+  module _ (s : Side) (i : ℕ) where
+    -- corner i is the support corner in a step in which its nearest feature is at the other support corner
+    abbrev pub Meets : (Side → ℕ) → Type 0
+    Meets support = (support s ≡ i)
+        × AtSupport (length (pair (other s))) (support (other s)) (feature (pair (other s)) (corner (pair s) i))
+
+    meets-counts : (es : List PairEdge) (support : Side → ℕ) → Supported pair support → Met pair Meets es support
+        → Met pair (Counts pair s i) es support
+    meets-counts [] support known none = absurd none
+    meets-counts (e ∷ es) support known (inl (is, at-support)) =
+        inl (is, counted-iff (polygons (other s)) (support (other s)) (known (other s)) (corner (pair s) i) .1 at-support)
+    meets-counts (e ∷ es) support known (inr later) =
+        inr (meets-counts es (passed pair e support) (passed-below support known e) later)
+
+    pub met-counted : Met pair Meets (angularOrder pair) (begin pair .support) → Counted pair s (stepCount pair) i
+    met-counted met =
+        rw (← order-length pair, take-length (angularOrder pair))
+        (meets-counts (angularOrder pair) (begin pair .support) (begin-running s .known) met)

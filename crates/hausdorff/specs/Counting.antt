@@ -1,9 +1,9 @@
 -- Document 01: when a corner counts, seen from the other outline, cs, whose corner in touch is b.
---     isPoint      the test whether two points are the same
+--     isSame       the test whether two points are the same
 --     liesOn       a point lies on edge i, its ends included
---     meetsAt      a point is corner b or lies on one of the two edges that meet there, ends included
---     isCounted    v is not within the piece, and its nearest point meets it there
--- `proofs/CountingLaws.antt` has the local test of the same.
+--     liesAt       a point is corner b or lies on one of the two edges that meet there, ends included
+--     isCounted    v is not within the piece, and its nearest point lies at corner b
+-- `proofs/CountingLaws.antt` shows that v counts exactly where its nearest feature is corner b, a neighbour of it, or an edge at it.
 use Prim.Native.Nat.{ℕ}
 use mathlib.Core.Bool.{Bool, _&&_, _||_}
 use mathlib.Core.List.{List}
@@ -19,8 +19,8 @@ use Rattle.outline.specs.Corners.{corner, next, previous}
 use Rattle.nearest.specs.Piece.{edge, sideOf, isOutside}
 use Rattle.nearest.specs.Local.{nearest}
 
-abbrev pub isPoint : Point → Point → Bool
-isPoint y z =
+abbrev pub isSame : Point → Point → Bool
+isSame y z =
     eqZ (y .x *ℤ pos (z .lower)) (z .x *ℤ pos (y .lower)) && eqZ (y .y *ℤ pos (z .lower)) (z .y *ℤ pos (y .lower))
 
 -- on the edge's line, not before its start and not after its end
@@ -30,8 +30,8 @@ liesOn cs i y =
     && leZ (pos 0) (dot (edge cs i) (whole (corner cs i) ⇢ y))
     && leZ (pos 0) (dot (edge cs i) (y ⇢ whole (corner cs (next (length cs) i))))
 
-unfoldable pub meetsAt : List Corner → ℕ → Point → Bool
-meetsAt cs b y = isPoint y (whole (corner cs b)) || liesOn cs (previous (length cs) b) y || liesOn cs b y
+unfoldable pub liesAt : List Corner → ℕ → Point → Bool
+liesAt cs b y = isSame y (whole (corner cs b)) || liesOn cs (previous (length cs) b) y || liesOn cs b y
 
 unfoldable pub isCounted : List Corner → ℕ → Corner → Bool
-isCounted cs b v = isOutside cs v && meetsAt cs b (nearest cs v .point)
+isCounted cs b v = isOutside cs v && liesAt cs b (nearest cs v .point)

@@ -1,4 +1,4 @@
--- Document 01: the trial, an exhaustive search. It is fed the corners of A and B and nothing from the sweep or the nearest point.
+-- Document 01: the trial, an exhaustive search. It is fed the corners of A and B, and nothing from the sweep or from `nearest`.
 --     tried         what is found for corner i of a side, by trying every corner and edge of the other outline (`search`)
 --     worse         a later corner takes the place of the worst only if its gap is greater as a value
 --     tryCorners    the worst, after the corners of a side below n
@@ -11,19 +11,19 @@ use Rattle.outline.specs.Corners.{corner}
 use Rattle.nearest.specs.Search.{search}
 use Rattle.hausdorff.specs.declared.Side.{Side}
 use Rattle.hausdorff.specs.declared.Side.the-variants.{A, B}
-use Rattle.hausdorff.specs.declared.Worst.{Worst}
+use Rattle.hausdorff.specs.declared.CornerGap.{CornerGap}
 use Rattle.hausdorff.specs.Pair.{Pair, other}
-use Rattle.hausdorff.specs.Worst.{named}
+use Rattle.hausdorff.specs.CornerGap.{named}
 
-abbrev pub tried : Pair → Side → ℕ → Worst
+abbrev pub tried : Pair → Side → ℕ → CornerGap
 tried pair s i = named s i (search (pair (other s)) (corner (pair s) i))
 
-abbrev pub worse : Worst → Worst → Worst
+abbrev pub worse : CornerGap → CornerGap → CornerGap
 worse worst new = cond (isLess (worst .gap) (new .gap)) new worst
 
-unfoldable pub tryCorners : Pair → Side → Worst → ℕ → Worst
+unfoldable pub tryCorners : Pair → Side → CornerGap → ℕ → CornerGap
 tryCorners pair s worst zero = worst
 tryCorners pair s worst (suc n) = worse (tryCorners pair s worst n) (tried pair s n)
 
-abbrev pub exhaustive : Pair → Worst
+abbrev pub exhaustive : Pair → CornerGap
 exhaustive pair = tryCorners pair B (tryCorners pair A (tried pair A 0) (length (pair A))) (length (pair B))

@@ -10,11 +10,11 @@ use Rattle.outline.specs.Corners.{corner}
 use Rattle.nearest.specs.Nearest.{Answers}
 use Rattle.hausdorff.specs.declared.Side.{Side}
 use Rattle.hausdorff.specs.declared.Side.the-variants.{A, B}
-use Rattle.hausdorff.specs.declared.Worst.{Worst}
+use Rattle.hausdorff.specs.declared.CornerGap.{CornerGap}
 use Rattle.hausdorff.specs.Pair.{Pair, other}
-use Rattle.hausdorff.specs.Worst.{found}
+use Rattle.hausdorff.specs.CornerGap.{found}
 
-pub record IsGap (pair : Pair) (w : Worst) : Type 0 where
+pub record IsGap (pair : Pair) (w : CornerGap) : Type 0 where
   pub known : w .corner < length (pair (w .side))
   pub answers : Answers (pair (other (w .side))) (corner (pair (w .side)) (w .corner)) (found w)
 
@@ -24,7 +24,7 @@ NotLater A i B j = Unit {0}
 NotLater B i A j = ⊥
 NotLater B i B j = i ≤ j
 
-pub record IsAnswer (pair : Pair) (w : Worst) : Type 0 where
+pub record IsAnswer (pair : Pair) (w : CornerGap) : Type 0 where
   pub is-gap : IsGap pair w
-  pub greatest : (z : Worst) → IsGap pair z → NotGreater (z .gap) (w .gap)
-  pub first : (z : Worst) → IsGap pair z → NotGreater (w .gap) (z .gap) → NotLater (w .side) (w .corner) (z .side) (z .corner)
+  pub greatest : (z : CornerGap) → IsGap pair z → NotGreater (z .gap) (w .gap)
+  pub first : (z : CornerGap) → IsGap pair z → NotGreater (w .gap) (z .gap) → NotLater (w .side) (w .corner) (z .side) (z .corner)

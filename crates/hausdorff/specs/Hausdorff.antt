@@ -1,12 +1,15 @@
--- Report 83-442: the Hausdorff distance of two pieces, squared, over all their points X/D, Y/D. It is the greater of two distances, each
--- the greatest over the points of one piece of the least over the points of the other.
+-- Report 83-442: the Hausdorff distance of two pieces, squared, over all their points X/D, Y/D.
 --     distanceScaled, gapScaled    the squared distance of two points and a gap, multiplied out
---     NotBeyond     two points are not farther apart than the gap g
---     NotNearer     two points are not nearer than that
---     Hausdorff     g is the squared Hausdorff distance
+--     NotBeyond, NotNearer         two points are not farther apart than the gap, or not nearer
+--     AtMost, AtLeast              the distance from a piece to another, squared, is at most the gap, or at least
+--     Directed                     it is the gap: the greatest over the points of one of the least over the points of the other
+--     Hausdorff                    the distance between them is the gap: the greater of the two
+use Prim.Native.Nat.{_<_}
+use mathlib.Core.List.{List}
 use lib.IntN.{ℤ, pos, _*ℤ_}
-use lib.Signed.{_≤ℤ_, _<ℤ_}
+use lib.Signed.{_≤ℤ_}
 use Rattle.integers.specs.declared.fraction.Fraction.{Fraction}
+use Rattle.plane.specs.declared.Corner.{Corner}
 use Rattle.plane.specs.declared.Point.{Point}
 use Rattle.plane.specs.Point.{_⇢_}
 use Rattle.plane.specs.Vector.{dot}
@@ -27,8 +30,21 @@ NotBeyond g p q = distanceScaled g p q ≤ℤ gapScaled g p q
 abbrev pub NotNearer : Fraction → Point → Point → Type 0
 NotNearer g p q = gapScaled g p q ≤ℤ distanceScaled g p q
 
--- every point of each piece has a point of the other within the gap, and some point of A or of B has none nearer than that
+-- every point of the first has a point of the second within the gap
+abbrev pub AtMost : Fraction → List Corner → List Corner → Type 0
+AtMost g cs ds = (p : Point) → InPiece cs p → (q : Point) × InPiece ds q × NotBeyond g p q
+
+-- some point of the first has none nearer than that
+abbrev pub AtLeast : Fraction → List Corner → List Corner → Type 0
+AtLeast g cs ds = (p : Point) × InPiece cs p × ((q : Point) → InPiece ds q → NotNearer g p q)
+
+pub record Directed (cs ds : List Corner) (g : Fraction) : Type 0 where
+  pub lower-positive : 0 < g .lower
+  pub at-most : AtMost g cs ds
+  pub at-least : AtLeast g cs ds
+
+-- at most the gap from each to the other, and at least the gap from one of them
 pub record Hausdorff (pair : Pair) (g : Fraction) : Type 0 where
-  pub lower-positive : pos 0 <ℤ pos (g .lower)
-  pub within-gap : (s : Side) (p : Point) → InPiece (pair s) p → (q : Point) × InPiece (pair (other s)) q × NotBeyond g p q
-  pub reached : (s : Side) × (p : Point) × InPiece (pair s) p × ((q : Point) → InPiece (pair (other s)) q → NotNearer g p q)
+  pub lower-positive : 0 < g .lower
+  pub at-most : (s : Side) → AtMost g (pair s) (pair (other s))
+  pub at-least : (s : Side) × AtLeast g (pair s) (pair (other s))

@@ -2,6 +2,7 @@
 pub mod Pair
 pub mod AngularOrder
 pub mod Counting
+pub mod CornerGap
 pub mod Worst
 pub mod Sweep
 pub mod Report

@@ -3,6 +3,7 @@
 --     both            the pair of two corner lists
 --     other           the other side
 --     sameSide        the test whether two sides are one
+--     edgeCount       the number of edges of an outline, one from each corner
 --     stepCount       document 01's N, the number of edges of both
 --     AcceptedPair    both outlines are accepted
 --     Polygons        both are polygons, of any range and count: what the laws of geometry ask
@@ -32,8 +33,11 @@ sameSide A B = false
 sameSide B A = false
 sameSide B B = true
 
+abbrev pub edgeCount : List Corner → ℕ
+edgeCount cs = length cs
+
 abbrev pub stepCount : Pair → ℕ
-stepCount pair = length (pair A) + length (pair B)
+stepCount pair = edgeCount (pair A) + edgeCount (pair B)
 
 abbrev pub AcceptedPair : Pair → Type 0
 AcceptedPair pair = (s : Side) → Accepted (pair s)

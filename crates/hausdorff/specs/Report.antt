@@ -1,5 +1,6 @@
 -- Document 01: what a comparison of two accepted outlines gives for a step allowance.
---     clearance      the clearance figure of a gap: the largest whole number whose square is not above it
+--     IsClearance    the clearance figure of a gap: the largest whole number whose square is not above it
+--     clearance      that number
 --     firstWithin    A's corner 0, within
 --     answer         the worst so far after step N, or A's corner 0, within, if that is none
 --     spent, done    the two reports
@@ -8,11 +9,11 @@ use Prim.Native.Nat.{ℕ, _/_}
 use mathlib.Core.Bool.{cond}
 use lib.Dec.{ltb}
 use Rattle.integers.specs.declared.fraction.Fraction.{Fraction}
-use Rattle.integers.specs.Root.{root}
+use Rattle.integers.specs.Root.{root, FloorRoot}
 use Rattle.outline.specs.Corners.{corner}
 use Rattle.nearest.specs.Feature.{withinValues}
 use Rattle.hausdorff.specs.declared.Side.the-variants.{A, B}
-use Rattle.hausdorff.specs.declared.Worst.{Worst}
+use Rattle.hausdorff.specs.declared.CornerGap.{CornerGap}
 use Rattle.hausdorff.specs.declared.WorstSoFar.{WorstSoFar}
 use Rattle.hausdorff.specs.declared.WorstSoFar.the-variants.{None, Worst as Some}
 use Rattle.hausdorff.specs.declared.Spent.{Spent}
@@ -20,21 +21,25 @@ use Rattle.hausdorff.specs.declared.Done.{Done}
 use Rattle.hausdorff.specs.declared.Report.{Report}
 use Rattle.hausdorff.specs.declared.Report.the-variants.{Spent as IsSpent, Done as IsDone}
 use Rattle.hausdorff.specs.Pair.{Pair, stepCount}
-use Rattle.hausdorff.specs.Worst.{named}
+use Rattle.hausdorff.specs.CornerGap.{named}
 use Rattle.hausdorff.specs.Sweep.{after, worstSoFar}
+
+abbrev pub IsClearance : Fraction → ℕ → Type 0
+IsClearance g m = FloorRoot g m
 
 -- a whole number's square is not above a fraction exactly where it is not above its whole part
 abbrev pub clearance : Fraction → ℕ
 clearance g = root (g .upper / g .lower)
 
-abbrev pub firstWithin : Pair → Worst
+abbrev pub firstWithin : Pair → CornerGap
 firstWithin pair = named A 0 (withinValues (corner (pair A) 0))
 
-abbrev pub orFirstWithin : Pair → WorstSoFar → Worst
+-- a worst so far, or that
+abbrev pub orFirstWithin : Pair → WorstSoFar → CornerGap
 orFirstWithin pair None = firstWithin pair
 orFirstWithin pair (Some w) = w
 
-abbrev pub answer : Pair → Worst
+abbrev pub answer : Pair → CornerGap
 answer pair = orFirstWithin pair (worstSoFar pair (stepCount pair))
 
 -- the steps made (equal to the allowance), both corners in touch, and the worst so far or none

@@ -1,5 +1,5 @@
 // The Hausdorff distance of two outlines: what a comparison by steps reports. `specs/` defines the steps and the figure, and `proofs/`
-// shows that the steps find it (`proofs/Law.antt`). The calls follow.
+// shows that the steps find it (`proofs/Law.antt`).
 use integers::fraction::Fraction;
 use nearest::Feature;
 use plane::Point;
@@ -11,7 +11,7 @@ pub enum Side {
 }
 
 // A corner of one outline with its gap to the other: side, corner, nearest feature, gap and nearest point.
-pub struct Worst {
+pub struct CornerGap {
     pub side: Side,
     pub corner: usize,
     pub feature: Feature,
@@ -22,11 +22,11 @@ pub struct Worst {
 // Document 01: the worst so far, or none.
 pub enum WorstSoFar {
     None,
-    Worst(Worst),
+    Worst(CornerGap),
 }
 
 // Document 01: the corners in touch, one of each outline.
-pub struct Supports {
+pub struct SupportCorners {
     pub a: usize,
     pub b: usize,
 }
@@ -34,14 +34,14 @@ pub struct Supports {
 // Document 01: the allowance was below the number of steps. The steps made, the corners in touch and the worst so far.
 pub struct Spent {
     pub steps: u32,
-    pub support: Supports,
+    pub support: SupportCorners,
     pub worst: WorstSoFar,
 }
 
 // Document 01: all steps were made. Their number, the answer and its clearance figure.
 pub struct Done {
     pub steps: u32,
-    pub answer: Worst,
+    pub answer: CornerGap,
     pub clearance: u64,
 }
 

@@ -1,7 +1,7 @@
 -- The order of fractions, as contracts state it.
 --     order x y    the three-way comparison of two natural numbers: Less, Equal or Greater
 --     isLess       a fraction is less than another, as values
---     NotGreater   the same as a proposition, the other way round: it is not greater
+--     NotGreater   a fraction is not greater than another, as values
 --     Bounded a    the bounds under which `compare` is exact in 64 bits
 -- Fractions are compared by their cross products: n1 / d1 is to n2 / d2 as n1 * d2 is to n2 * d1, in unbounded numbers.
 use mathlib.Core.Bool.{Bool, cond}

@@ -15,10 +15,10 @@ isFirstHalf d = ltZ (pos 0) (d .y) || (eqZ (d .y) (pos 0) && ltZ (pos 0) (d .x))
 
 -- whether the first of two vectors is in the first half, and the second, and what holds where both are in one half
 abbrev pub byHalves : Bool → Bool → Bool → Bool
-byHalves true true within = within
-byHalves true false within = true
-byHalves false true within = false
-byHalves false false within = within
+byHalves true true inOne = inOne
+byHalves true false inOne = true
+byHalves false true inOne = false
+byHalves false false inOne = inOne
 
 -- the first half comes first; within a half d comes before e when dx × ey - dy × ex is positive
 unfoldable pub isBefore : Vector → Vector → Bool
@@ -29,6 +29,6 @@ sameHalf true t = t
 sameHalf false true = false
 sameHalf false false = true
 
--- the directions are equal when it is zero
+-- and within a half the directions are equal when it is zero
 unfoldable pub sameDirection : Vector → Vector → Bool
 sameDirection d e = sameHalf (isFirstHalf d) (isFirstHalf e) && eqZ (cross d e) (pos 0)

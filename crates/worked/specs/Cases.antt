@@ -23,7 +23,7 @@ use Rattle.nearest.specs.Call.{nearestAnswer}
 use Rattle.nearest.specs.Search.{search}
 use Rattle.edit.specs.Removal.{removalVerdict, listAfter}
 use Rattle.hausdorff.specs.declared.Side.the-variants.{A, B}
-use Rattle.hausdorff.specs.declared.Worst.{Worst}
+use Rattle.hausdorff.specs.declared.CornerGap.{CornerGap}
 use Rattle.hausdorff.specs.declared.WorstSoFar.{WorstSoFar}
 use Rattle.hausdorff.specs.declared.WorstSoFar.the-variants.{None, Worst as Some}
 use Rattle.hausdorff.specs.declared.Report.{Report}
@@ -47,7 +47,7 @@ pub data Case : Type 0 where
   -- comparing them with a step allowance reports this
   compares : List ℤ → List ℤ → ℕ → Report → Case
   -- the exhaustive search over both finds this
-  exhausts : List ℤ → List ℤ → Worst → Case
+  exhausts : List ℤ → List ℤ → CornerGap → Case
 
 abbrev pair : List ℤ → List ℤ → Pair
 pair s t = both (corners s) (corners t)
@@ -136,7 +136,7 @@ a i = record { side = A; number = i }
 abbrev b : ℕ → PairEdge
 b i = record { side = B; number = i }
 
-abbrev worstST : Worst
+abbrev worstST : CornerGap
 worstST = record {
   side = A;
   corner = 2;
@@ -145,7 +145,7 @@ worstST = record {
   point = record { x = pos 64; y = pos 64; lower = 32 };
 }
 
-abbrev worstMoved : Worst
+abbrev worstMoved : CornerGap
 worstMoved = record {
   side = A;
   corner = 0;
@@ -154,7 +154,7 @@ worstMoved = record {
   point = record { x = pos 10; y = pos 0; lower = 1 };
 }
 
-abbrev worstFar : Worst
+abbrev worstFar : CornerGap
 worstFar = record {
   side = A;
   corner = 0;
@@ -163,7 +163,7 @@ worstFar = record {
   point = record { x = pos 31999; y = pos 31999; lower = 2 };
 }
 
-abbrev firstWithin : ℤ → ℤ → Worst
+abbrev firstWithin : ℤ → ℤ → CornerGap
 firstWithin x y = record {
   side = A;
   corner = 0;
@@ -175,7 +175,7 @@ firstWithin x y = record {
 abbrev spent : ℕ → ℕ → ℕ → WorstSoFar → Report
 spent steps i j worst = Spent (record { steps = steps; support = record { a = i; b = j }; worst = worst })
 
-abbrev done : ℕ → Worst → ℕ → Report
+abbrev done : ℕ → CornerGap → ℕ → Report
 done steps answer clearance = Done (record { steps = steps; answer = answer; clearance = clearance })
 
 abbrev pub cases : List Case
