@@ -14,13 +14,13 @@ use Rattle.plane.specs.Direction.{isFirstHalf, isBefore, sameDirection}
 use Rattle.plane.specs.Point.{_⇢_}
 use Rattle.integers.specs.Root.{rootBy}
 use Rattle.hausdorff.specs.AngularOrder.{precedes, insert, sort, edgesBelow, angularOrder, own}
-use Rattle.hausdorff.specs.Counting.{meetsAt, isCounted}
+use Rattle.hausdorff.specs.Counting.{liesAt, isCounted}
 use Rattle.hausdorff.specs.Sweep.{begin, measured, step, steps}
 use Rattle.hausdorff.specs.Report.{report}
 use Rattle.hausdorff.specs.Exhaustive.{tryCorners}
-use Rattle.worked.specs.Cases.{All, cases, S, T, star, straight, clockwise, twice, wedge, moved, turned, low, high}
+use Rattle.worked.specs.Cases.{All, cases, S, T, star, straight, clockwise, twice, wedge, moved, turned, low, high, square, squareMoved, thin, wide}
 
 pub claim : All cases
-unfolding inRange _⇀_ cross dot same each corners next outOfRange repeated notLeftOf notLeft check without removal all firstOf feature triedCorners triedEdges tried least pointCheck isFirstHalf isBefore sameDirection _⇢_ rootBy precedes insert sort edgesBelow angularOrder own meetsAt isCounted begin measured step steps report tryCorners S T star straight clockwise twice wedge moved turned low high
+unfolding inRange _⇀_ cross dot same each corners next outOfRange repeated notLeftOf notLeft check without removal all firstOf feature triedCorners triedEdges tried least pointCheck isFirstHalf isBefore sameDirection _⇢_ rootBy precedes insert sort edgesBelow angularOrder own liesAt isCounted begin measured step steps report tryCorners S T star straight clockwise twice wedge moved turned low high square squareMoved thin wide
 claim =
-    (refl, (refl, (refl, (refl, (refl, (refl, ((refl, refl), ((refl, refl), ((refl, refl), ((refl, refl), (refl, (refl, (refl, (refl, (refl, (refl, (refl, (refl, (refl, (refl, (refl, (refl, (refl, (refl, (refl, (refl, (refl, (refl, (refl, (refl, (refl, (refl, tt))))))))))))))))))))))))))))))))
+    (refl, (refl, (refl, (refl, (refl, (refl, ((refl, refl), ((refl, refl), ((refl, refl), ((refl, refl), (refl, (refl, (refl, (refl, (refl, (refl, (refl, (refl, (refl, (refl, (refl, (refl, (refl, (refl, (refl, (refl, (refl, (refl, (refl, (refl, (refl, (refl, (refl, (refl, (refl, (refl, (refl, (refl, tt))))))))))))))))))))))))))))))))))))))

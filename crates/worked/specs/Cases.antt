@@ -17,11 +17,13 @@ use Rattle.outline.specs.Reading.{reading}
 use Rattle.outline.specs.Corners.{corners}
 use Rattle.nearest.specs.declared.NearestAnswer.{NearestAnswer}
 use Rattle.nearest.specs.declared.NearestAnswer.the-variants.{Found, Refused as NearestRefused}
+use Rattle.nearest.specs.declared.Feature.{Feature}
 use Rattle.nearest.specs.declared.Feature.the-variants.{Within, Corner as AtCorner, Edge as OnEdge}
 use Rattle.nearest.specs.declared.NearestPoint.{NearestPoint}
 use Rattle.nearest.specs.Call.{nearestAnswer}
 use Rattle.nearest.specs.Search.{search}
 use Rattle.edit.specs.Removal.{removalVerdict, listAfter}
+use Rattle.hausdorff.specs.declared.Side.{Side}
 use Rattle.hausdorff.specs.declared.Side.the-variants.{A, B}
 use Rattle.hausdorff.specs.declared.CornerGap.{CornerGap}
 use Rattle.hausdorff.specs.declared.WorstSoFar.{WorstSoFar}
@@ -130,46 +132,32 @@ low = negsuc 15999 ∷ negsuc 15999 ∷ negsuc 15998 ∷ negsuc 15999 ∷ negsuc
 unfoldable pub high : List ℤ
 high = pos 16000 ∷ pos 16000 ∷ pos 15999 ∷ pos 16000 ∷ pos 16000 ∷ pos 15999 ∷ []
 
+unfoldable pub square : List ℤ
+square = pos 1 ∷ negsuc 0 ∷ pos 1 ∷ pos 1 ∷ negsuc 0 ∷ pos 1 ∷ negsuc 0 ∷ negsuc 0 ∷ []
+
+unfoldable pub squareMoved : List ℤ
+squareMoved = pos 11 ∷ negsuc 0 ∷ pos 11 ∷ pos 1 ∷ pos 9 ∷ pos 1 ∷ pos 9 ∷ negsuc 0 ∷ []
+
+unfoldable pub thin : List ℤ
+thin = pos 2 ∷ pos 0 ∷ pos 1 ∷ pos 0 ∷ negsuc 1 ∷ negsuc 0 ∷ []
+
+unfoldable pub wide : List ℤ
+wide = pos 0 ∷ pos 0 ∷ negsuc 1 ∷ pos 2 ∷ negsuc 1 ∷ negsuc 0 ∷ []
+
 abbrev a : ℕ → PairEdge
 a i = record { side = A; number = i }
 
 abbrev b : ℕ → PairEdge
 b i = record { side = B; number = i }
 
-abbrev worstST : CornerGap
-worstST = record {
-  side = A;
-  corner = 2;
-  feature = OnEdge 1;
-  gap = record { upper = 256; lower = 32 };
-  point = record { x = pos 64; y = pos 64; lower = 32 };
-}
-
-abbrev worstMoved : CornerGap
-worstMoved = record {
-  side = A;
-  corner = 0;
-  feature = AtCorner 0;
-  gap = record { upper = 100; lower = 1 };
-  point = record { x = pos 10; y = pos 0; lower = 1 };
-}
-
-abbrev worstFar : CornerGap
-worstFar = record {
-  side = A;
-  corner = 0;
-  feature = OnEdge 1;
-  gap = record { upper = 4095872001; lower = 2 };
-  point = record { x = pos 31999; y = pos 31999; lower = 2 };
-}
-
-abbrev firstWithin : ℤ → ℤ → CornerGap
-firstWithin x y = record {
-  side = A;
-  corner = 0;
-  feature = Within;
-  gap = record { upper = 0; lower = 1 };
-  point = record { x = x; y = y; lower = 1 };
+-- a corner of a side with its feature, its gap and the nearest point, both over the same lower number
+abbrev corner : Side → ℕ → Feature → ℕ → ℤ → ℤ → ℕ → CornerGap
+corner s i f upper x y lower = record {
+  side = s;
+  corner = i;
+  feature = f;
+  gap = record { upper = upper; lower = lower };
+  point = record { x = x; y = y; lower = lower };
 }
 
 abbrev spent : ℕ → ℕ → ℕ → WorstSoFar → Report
@@ -202,15 +190,23 @@ cases =
     ∷ searches (point (pos 12) (pos 9)) wedge (cornerOne 90)
     ∷ searches (point (pos 6) (pos 1)) wedge (within (pos 6) (pos 1))
     ∷ orders S T (a 0 ∷ b 0 ∷ a 1 ∷ b 1 ∷ a 2 ∷ a 3 ∷ b 2 ∷ [])
-    ∷ compares S T 512 (done 7 worstST 2)
+    ∷ compares S T 512 (done 7 (corner A 2 (OnEdge 1) 256 (pos 64) (pos 64) 32) 2)
     ∷ compares S T 0 (spent 0 0 0 None)
     ∷ compares S T 3 (spent 3 2 1 None)
-    ∷ compares S T 4 (spent 4 2 2 (Some worstST))
-    ∷ compares S moved 8 (done 8 worstMoved 10)
-    ∷ compares S S 8 (done 8 (firstWithin (pos 0) (pos 0)) 0)
-    ∷ compares S turned 8 (done 8 (firstWithin (pos 0) (pos 0)) 0)
-    ∷ compares turned S 8 (done 8 (firstWithin (pos 4) (pos 4)) 0)
-    ∷ compares low high 6 (done 6 worstFar 45254)
-    ∷ exhausts S T worstST
-    ∷ exhausts low high worstFar
+    ∷ compares S T 4 (spent 4 2 2 (Some (corner A 2 (OnEdge 1) 256 (pos 64) (pos 64) 32)))
+    ∷ compares S T 6 (spent 6 0 2 (Some (corner A 2 (OnEdge 1) 256 (pos 64) (pos 64) 32)))
+    ∷ compares T S 7 (done 7 (corner B 2 (OnEdge 1) 256 (pos 64) (pos 64) 32) 2)
+    ∷ compares S moved 8 (done 8 (corner A 0 (AtCorner 0) 100 (pos 10) (pos 0) 1) 10)
+    ∷ compares S S 8 (done 8 (corner A 0 Within 0 (pos 0) (pos 0) 1) 0)
+    ∷ compares S turned 8 (done 8 (corner A 0 Within 0 (pos 0) (pos 0) 1) 0)
+    ∷ compares turned S 8 (done 8 (corner A 0 Within 0 (pos 4) (pos 4) 1) 0)
+    ∷ compares low high 6 (done 6 (corner A 0 (OnEdge 1) 4095872001 (pos 31999) (pos 31999) 2) 45254)
+    -- of equal gaps corner 2 takes the place of corner 3, which was found before
+    ∷ compares square squareMoved 5 (spent 5 2 1 (Some (corner A 3 (AtCorner 3) 100 (pos 9) (negsuc 0) 1)))
+    ∷ compares square squareMoved 6 (spent 6 2 2 (Some (corner A 2 (AtCorner 2) 100 (pos 9) (pos 1) 1)))
+    -- the nearest point is a neighbour of the corner in touch
+    ∷ compares thin wide 2 (spent 2 0 0 (Some (corner A 0 (AtCorner 0) 4 (pos 0) (pos 0) 1)))
+    ∷ exhausts S T (corner A 2 (OnEdge 1) 256 (pos 64) (pos 64) 32)
+    ∷ exhausts low high (corner A 0 (OnEdge 1) 4095872001 (pos 31999) (pos 31999) 2)
+    ∷ exhausts square squareMoved (corner A 2 (AtCorner 2) 100 (pos 9) (pos 1) 1)
     ∷ []
