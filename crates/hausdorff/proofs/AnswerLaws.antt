@@ -1,26 +1,22 @@
 -- The answer: there is one, and the steps and the exhaustive search find it.
---     gap-iff             a corner's gap is the one that the nearest relation gives
 --     answer-unique       document 01's definition admits one answer only
 --     sweep-answers       the worst so far after all steps is the answer
 --     zero-answer         if every gap is zero the answer is A's corner 0, within
 --     search-answers      what the exhaustive search finds is the answer
 use Prim.Native.Nat.{ℕ, zero, suc, _<_, _≤_}
-use mathlib.Core.Path.{_≡_, refl, sym, ap, subst, _∙_}
+use mathlib.Core.Path.{_≡_, refl, sym, ap, _∙_}
 use mathlib.Core.Logic.{_↔_, _⊎_, inl, inr, ⊎-elim}
-use mathlib.Core.Bool.{Bool, true, false, cond}
+use mathlib.Core.Bool.{Bool, cond}
 use native.Mathlib.Decide.{ℕ-discrete}
 use native.Mathlib.Omega.{arith}
-use native.Mathlib.Nat.{le-antisymm}
 use lib.ListN.{length}
-use Rattle.integers.specs.Fraction.{isLess, NotGreater}
+use Rattle.integers.specs.Fraction.{NotGreater}
 use Rattle.outline.specs.Corners.{corner}
 use Rattle.plane.specs.Point.{whole}
 use Rattle.nearest.specs.declared.Feature.{Feature}
 use Rattle.nearest.specs.Piece.{InPiece}
-use Rattle.nearest.specs.Nearest.{Answers}
-use Rattle.nearest.specs.Local.{nearest}
 use Rattle.nearest.specs.Feature.{values}
-use Rattle.nearest.proofs.AnswerLaws.{answers-iff, within-iff, gap-zero-iff}
+use Rattle.nearest.proofs.AnswerLaws.{within-iff, gap-zero-iff}
 use Rattle.nearest.proofs.SearchLaws.{search-nearest}
 use Rattle.hausdorff.specs.declared.CornerGap.{CornerGap}
 use Rattle.hausdorff.specs.declared.WorstSoFar.{WorstSoFar}
@@ -28,41 +24,18 @@ use Rattle.hausdorff.specs.declared.WorstSoFar.the-variants.{None, Worst
 use Rattle.hausdorff.specs.declared.Side.{Side}
 use Rattle.hausdorff.specs.declared.Side.the-variants.{A, B}
 use Rattle.hausdorff.specs.Pair.{Pair, other, stepCount, Polygons}
-use Rattle.hausdorff.specs.CornerGap.{named, found, cornerGap}
+use Rattle.hausdorff.specs.CornerGap.{named, cornerGap}
 use Rattle.hausdorff.specs.Worst.{shownNumber, overall}
 use Rattle.hausdorff.specs.Sweep.{after}
 use Rattle.hausdorff.specs.Report.{answer, firstWithin, orFirstWithin}
 use Rattle.hausdorff.specs.Exhaustive.{tried, worse, tryCorners, exhaustive}
 use Rattle.hausdorff.specs.Figure.{IsGap, NotLater, IsAnswer}
-use Rattle.integers.proofs.FractionOrder.{notGreater-trans, isLess-true, isLess-false}
 use Rattle.integers.proofs.FractionOrder.{less-isLess, notGreater-isLess, less-notGreater}
-use Rattle.hausdorff.proofs.DistanceLaws.{gap-positive}
-use Rattle.hausdorff.proofs.Preference.{Preferred, preferred-refl, least-iff}
+use Rattle.hausdorff.proofs.Preference.{preferred-refl, least-iff}
+use Rattle.hausdorff.proofs.Leads.{gap-iff, same-side, not-later-antisym, Leads, leads-map, leads-worse}
+use Rattle.hausdorff.proofs.Leads.{Of, leads-of, by-side, leads-both}
 use Rattle.hausdorff.proofs.WorstLaws.{StoredAs}
 use Rattle.hausdorff.proofs.SideWorst.{SideWorst, side-worst}
-
--- Two corners of which neither is later are one.
-not-later-antisym : (pair : Pair) (s t : Side) (i j : ℕ) → NotLater s i t j → NotLater t j s i → cornerGap pair s i ≡ cornerGap pair t j
-not-later-antisym pair A A i j p q = ap (cornerGap pair A) (le-antisymm p q)
-not-later-antisym pair A B i j p q = absurd q
-not-later-antisym pair B A i j p q = absurd p
-not-later-antisym pair B B i j p q = ap (cornerGap pair B) (le-antisymm p q)
-
--- On one side the numbers decide.
-same-side : (s : Side) (i j : ℕ) → i ≤ j → NotLater s i s j
-same-side A i j p = p
-same-side B i j p = p
-
--- w is one of some gaps, the greatest of these, and the first of equals
-record Leads (pair : Pair) (Among : CornerGap → Type 0) (w : CornerGap) : Type 0 where
-  is-gap : IsGap pair w
-  among : Among w
-  greatest : (z : CornerGap) → IsGap pair z → Among z → NotGreater (z .gap) (w .gap)
-  first : (z : CornerGap) → IsGap pair z → Among z → NotGreater (w .gap) (z .gap) → NotLater (w .side) (w .corner) (z .side) (z .corner)
-
--- a corner of the side s, whose number has the property Q
-abbrev Of : Side → (ℕ → Type 0) → CornerGap → Type 0
-Of s Q w = (w .side ≡ s) × Q (w .corner)
 
 -- any corner of the side s
 abbrev On : Pair → Side → CornerGap → Type 0
@@ -74,84 +47,18 @@ orFirst pair s None = cornerGap pair s 0
 orFirst pair s (Some w) = w
 
 module _ (pair : Pair) (polygons : Polygons pair) where
-  -- both say what is nearest to the corner; the rest of w is its name
-  pub gap-iff : (w : CornerGap) → IsGap pair w ↔ ((w .corner < length (pair (w .side))) × (w ≡ cornerGap pair (w .side) (w .corner)))
-  gap-iff w = (
-    λ is. (is .known, ap (named (w .side) (w .corner)) (meaning .0 (is .answers))),
-    λ (known, is). record { known = known; answers = meaning .1 (ap found is) },
-  )
-    where
-      meaning : Answers (pair (other (w .side))) (corner (pair (w .side)) (w .corner)) (found w)
-          ↔ (found w ≡ nearest (pair (other (w .side))) (corner (pair (w .side)) (w .corner)))
-      meaning = answers-iff (polygons (other (w .side))) (corner (pair (w .side)) (w .corner)) (found w)
-
   -- neither of two answers is greater, so neither is later
   pub answer-unique : (w z : CornerGap) → IsAnswer pair w → IsAnswer pair z → w ≡ z
   answer-unique w z is also =
-      gap-iff w .0 (is .is-gap) .1
+      gap-iff pair polygons w .0 (is .is-gap) .1
       ∙ not-later-antisym pair (w .side) (z .side) (w .corner) (z .corner)
       (is .first z (also .is-gap) (also .greatest w (is .is-gap)))
       (also .first w (is .is-gap) (is .greatest z (also .is-gap)))
-      ∙ sym (gap-iff z .0 (also .is-gap) .1)
-
-  -- a gap has a lower number above 0, so that the order of gaps is transitive
-  gap-lower : (z : CornerGap) → IsGap pair z → 0 < z .gap .lower
-  gap-lower z is =
-      subst (λ (x : CornerGap). 0 < x .gap .lower) (sym (gap-iff z .0 is .1)) (gap-positive pair polygons (z .side) (z .corner))
-
-  -- only which gaps it leads among matters, not how that is said
-  leads-map : {T U : CornerGap → Type 0} {w : CornerGap} → ((z : CornerGap) → IsGap pair z → T z ↔ U z) → Leads pair T w → Leads pair U w
-  leads-map {w = w} same leads = record {
-    is-gap = leads .is-gap;
-    among = same w (leads .is-gap) .0 (leads .among);
-    greatest = λ z is u. leads .greatest z is (same z is .1 u);
-    first = λ z is u. leads .first z is (same z is .1 u);
-  }
-
-  -- The worse of what leads among some and of what leads among later ones leads among all of these.
-  leads-worse : {T U : CornerGap → Type 0} (w z : CornerGap) → Leads pair T w → Leads pair U z
-      → ((x : CornerGap) → U x → NotLater (w .side) (w .corner) (x .side) (x .corner))
-      → Leads pair (λ x. T x ⊎ U x) (worse w z)
-  leads-worse {T} {U} w z p q order = go (isLess (w .gap) (z .gap)) refl
-    where
-      go : (t : Bool) → isLess (w .gap) (z .gap) ≡ t → Leads pair (λ x. T x ⊎ U x) (cond t z w)
-      go true less = record {
-        is-gap = q .is-gap;
-        among = inr (q .among);
-        greatest = λ x is. ⊎-elim
-            (λ t. notGreater-trans (x .gap) (w .gap) (z .gap) (gap-lower w (p .is-gap)) (p .greatest x is t)
-            (less-notGreater (w .gap) (z .gap) (isLess-true (w .gap) (z .gap) less)))
-            (q .greatest x is);
-        first = λ x is. ⊎-elim
-            (λ t equal. absurd (isLess-true (w .gap) (z .gap) less
-            (notGreater-trans (z .gap) (x .gap) (w .gap) (gap-lower x is) equal (p .greatest x is t))))
-            (q .first x is);
-      }
-      go false not-less = record {
-        is-gap = p .is-gap;
-        among = inl (p .among);
-        greatest = λ x is. ⊎-elim (p .greatest x is)
-            (λ u. notGreater-trans (x .gap) (z .gap) (w .gap) (gap-lower z (q .is-gap)) (q .greatest x is u)
-            (isLess-false (w .gap) (z .gap) not-less));
-        first = λ x is. ⊎-elim (p .first x is) (λ u _. order x u);
-      }
+      ∙ sym (gap-iff pair polygons z .0 (also .is-gap) .1)
 
   -- a side has a corner 0
   some : (s : Side) → 0 < length (pair s)
   some s = omega (arith, polygons s .at-least)
-
-  -- a corner that is preferred among some of its side leads among their gaps
-  leads-of : (s : Side) (Q : ℕ → Type 0) (i : ℕ) → i < length (pair s) → Q i
-      → ((j : ℕ) → Q j → Preferred (shownNumber pair s) (cornerGap pair s i) (cornerGap pair s j)) → Leads pair (Of s Q) (cornerGap pair s i)
-  leads-of s Q i below holds preferred = record {
-    is-gap = gap-iff (cornerGap pair s i) .1 (below, refl);
-    among = (refl, holds);
-    greatest = λ z is (on, q). rw (gap-at z s is on) (preferred (z .corner) q .not-less);
-    first = λ z is (on, q) equal. rw on (same-side s i (z .corner) (preferred (z .corner) q .first (rw (gap-at z s is on) at equal)));
-  }
-    where
-      gap-at : (z : CornerGap) (s : Side) → IsGap pair z → z .side ≡ s → z .gap ≡ cornerGap pair s (z .corner) .gap
-      gap-at z s is on = ap (λ (x : CornerGap). x .gap) (gap-iff z .0 is .1) ∙ ap (λ (t : Side). cornerGap pair t (z .corner) .gap) on
 
   -- what leads among all gaps is the answer
   leads-all : {T : CornerGap → Type 0} {w : CornerGap} → ((z : CornerGap) → IsGap pair z → T z) → Leads pair T w → IsAnswer pair w
@@ -161,27 +68,18 @@ module _ (pair : Pair) (polygons : Polygons pair) where
     first = λ z is. leads .first z is (every z is);
   }
 
-  -- a gap is of A or of B
-  either : (z : CornerGap) → IsGap pair z → On pair A z ⊎ On pair B z
-  either z is = go (z .side) refl
-    where
-      go : (s : Side) → z .side ≡ s → On pair A z ⊎ On pair B z
-      go A on = inl (on, rw on at (is .known))
-      go B on = inr (on, rw on at (is .known))
-
-  -- A's corners come before B's
+  -- A's corners and B's are all
   sides-answer : (w z : CornerGap) → Leads pair (On pair A) w → Leads pair (On pair B) z → IsAnswer pair (worse w z)
-  sides-answer w z p q = leads-all either (leads-worse w z p q (λ x on. rw (p .among .0, on .0) tt))
+  sides-answer w z p q = leads-all (λ x is. is .known) (leads-both pair polygons (λ s j. j < length (pair s)) w z p q)
 
   -- what the sweep finds for a side leads on it, and so does its corner 0 where that is none
   side-leads : (s : Side) (x : WorstSoFar) → SideWorst pair s x → Leads pair (On pair s) (orFirst pair s x)
   side-leads s None within =
-      leads-of s (λ j. j < length (pair s)) 0 (some s) (some s)
+      leads-of pair polygons s (λ j. j < length (pair s)) 0 (cornerGap pair s 0) refl (some s) (some s)
       (λ j below. record { not-less = least-iff pair polygons s s j 0 (within 0 (some s)) .1 (within j below); first = λ _. omega arith })
   side-leads s (Some w) is =
       let known = is .stored .is-outside .known in
-      rw (is .stored .is) (leads-of s (λ j. j < length (pair s)) (is .stored .number) known known
-      (λ j below. rw (is .stored .is) at (is .preferred j below)))
+      leads-of pair polygons s (λ j. j < length (pair s)) (is .stored .number) w (is .stored .is) known known (is .preferred)
 
   -- a corner outside has a greater gap than one within
   outside-above : (s t : Side) (w : CornerGap) (j : ℕ) → StoredAs pair s w → InPiece (pair (other t)) (whole (corner (pair t) j))
@@ -222,13 +120,14 @@ module _ (pair : Pair) (polygons : Polygons pair) where
     where
       within : (s : Side) → SideWorst pair s None
       within s i below = gap-zero-iff (polygons (other s)) (corner (pair s) i) .0
-          (none (cornerGap pair s i) (gap-iff (cornerGap pair s i) .1 (below, refl)))
+          (none (cornerGap pair s i) (gap-iff pair polygons (cornerGap pair s i) .1 (below, refl)))
 
   -- what is tried is the corner's gap
   tried-leads : (s : Side) (n : ℕ) → n < length (pair s) → Leads pair (Of s (λ j. j ≡ n)) (tried pair s n)
   tried-leads s n below =
-      subst (Leads pair (Of s (λ j. j ≡ n))) (ap (named s n) (sym (search-nearest (polygons (other s)) (corner (pair s) n))))
-      (leads-of s (λ j. j ≡ n) n below refl (λ j e. rw e (preferred-refl (shownNumber pair s) (cornerGap pair s n))))
+      let same = ap (named s n) (search-nearest (polygons (other s)) (corner (pair s) n)) in
+      leads-of pair polygons s (λ j. j ≡ n) n (tried pair s n) same below refl
+      (λ j e. rw (e, same) (preferred-refl (shownNumber pair s) (cornerGap pair s n)))
 
   -- where w leads among gaps that are not later than any of side s, trying the corners of s below n leads to what leads among all of these
   tries : {T : CornerGap → Type 0} (s : Side) (w : CornerGap) → Leads pair T w
@@ -239,7 +138,7 @@ module _ (pair : Pair) (polygons : Polygons pair) where
   tries {T} s w leads later (suc n) fits =
       let rest = tries s w leads later n (omega arith) in
       leads-map one-more
-      (leads-worse (tryCorners pair s w n) (tried pair s n) rest (tried-leads s n (omega arith))
+      (leads-worse pair polygons (tryCorners pair s w n) (tried pair s n) rest (tried-leads s n (omega arith))
       (order (tryCorners pair s w n) (rest .among)))
     where
       one-more : (z : CornerGap) → IsGap pair z
@@ -264,6 +163,6 @@ module _ (pair : Pair) (polygons : Polygons pair) where
   search-answers =
       let first = tried-leads A 0 (some A) in
       let on-a = tries A (tried pair A 0) first (λ x z of on. rw (of .0, on) (omega (arith, of .1))) (length (pair A)) (omega arith) in
-      leads-all (λ z is. ⊎-elim (λ a. inl (inr a)) inr (either z is))
+      leads-all (λ z is. ⊎-elim (λ a. inl (inr a)) inr (by-side (λ s j. j < length (pair s)) z .1 (is .known)))
       (tries B (tryCorners pair A (tried pair A 0) (length (pair A))) on-a
       (λ x z of on. rw (⊎-elim (λ first. first .0) (λ other. other .0) of, on) tt) (length (pair B)) (omega arith))

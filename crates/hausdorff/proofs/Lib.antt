@@ -11,7 +11,9 @@ pub mod CountingLaws
 pub mod HalfPlane
 pub mod DistanceLaws
 pub mod Preference
+pub mod Leads
 pub mod WorstLaws
+pub mod OverallWorst
 pub mod SideWorst
 pub mod AnswerLaws
 pub mod Law
