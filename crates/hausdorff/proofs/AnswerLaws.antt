@@ -20,22 +20,23 @@ use Rattle.nearest.proofs.AnswerLaws.{within-iff, gap-zero-iff}
 use Rattle.nearest.proofs.SearchLaws.{search-nearest}
 use Rattle.hausdorff.specs.declared.CornerGap.{CornerGap}
 use Rattle.hausdorff.specs.declared.WorstSoFar.{WorstSoFar}
-use Rattle.hausdorff.specs.declared.WorstSoFar.the-variants.{None, Worst as Some}
+use Rattle.hausdorff.specs.declared.WorstSoFar.the-variants.{None, Worst}
 use Rattle.hausdorff.specs.declared.Side.{Side}
 use Rattle.hausdorff.specs.declared.Side.the-variants.{A, B}
 use Rattle.hausdorff.specs.Pair.{Pair, other, stepCount, Polygons}
-use Rattle.hausdorff.specs.CornerGap.{named, cornerGap}
+use Rattle.hausdorff.specs.CornerGap.{named, cornerGap, worse}
 use Rattle.hausdorff.specs.Worst.{shownNumber, overall}
 use Rattle.hausdorff.specs.Sweep.{after}
 use Rattle.hausdorff.specs.Report.{answer, firstWithin, orFirstWithin}
-use Rattle.hausdorff.specs.Exhaustive.{tried, worse, tryCorners, exhaustive}
-use Rattle.hausdorff.specs.Figure.{IsGap, NotLater, IsAnswer}
+use Rattle.hausdorff.specs.Exhaustive.{tried, tryCorners, exhaustive}
+use Rattle.hausdorff.specs.Answer.{IsGap, NotLater, IsAnswer}
 use Rattle.integers.proofs.FractionOrder.{less-isLess, notGreater-isLess, less-notGreater}
-use Rattle.hausdorff.proofs.Preference.{preferred-refl, least-iff}
-use Rattle.hausdorff.proofs.Leads.{gap-iff, same-side, not-later-antisym, Leads, leads-map, leads-worse}
+use Rattle.hausdorff.proofs.Preference.{preferred-refl}
+use Rattle.hausdorff.proofs.Leads.{not-later-on-side, not-later-antisym, Leads, leads-map, leads-worse}
 use Rattle.hausdorff.proofs.Leads.{Of, leads-of, by-side, leads-both}
 use Rattle.hausdorff.proofs.WorstLaws.{StoredAs}
 use Rattle.hausdorff.proofs.SideWorst.{SideWorst, side-worst}
+use Rattle.hausdorff.proofs.GapLaws.{gap-iff, least-iff}
 
 -- any corner of the side s
 abbrev On : Pair → Side → CornerGap → Type 0
@@ -44,7 +45,7 @@ On pair s = Of s (λ j. j < length (pair s))
 -- the worst of a side, or its corner 0 where there is none
 abbrev orFirst : Pair → Side → WorstSoFar → CornerGap
 orFirst pair s None = cornerGap pair s 0
-orFirst pair s (Some w) = w
+orFirst pair s (Worst w) = w
 
 module _ (pair : Pair) (polygons : Polygons pair) where
   -- neither of two answers is greater, so neither is later
@@ -77,7 +78,7 @@ module _ (pair : Pair) (polygons : Polygons pair) where
   side-leads s None within =
       leads-of pair polygons s (λ j. j < length (pair s)) 0 (cornerGap pair s 0) refl (some s) (some s)
       (λ j below. record { not-less = least-iff pair polygons s s j 0 (within 0 (some s)) .1 (within j below); first = λ _. omega arith })
-  side-leads s (Some w) is =
+  side-leads s (Worst w) is =
       let known = is .stored .is-outside .known in
       leads-of pair polygons s (λ j. j < length (pair s)) (is .stored .number) w (is .stored .is) known known (is .preferred)
 
@@ -96,14 +97,14 @@ module _ (pair : Pair) (polygons : Polygons pair) where
       ∙ sym (ap (λ (t : Bool). cond t (cornerGap pair B 0) (cornerGap pair A 0))
       (notGreater-isLess (cornerGap pair A 0 .gap) (cornerGap pair B 0 .gap)
       (least-iff pair polygons B A 0 0 (p 0 (some A)) .1 (q 0 (some B)))))
-  overall-worse None (Some b) p q =
+  overall-worse None (Worst b) p q =
       sym (ap (λ (t : Bool). cond t b (cornerGap pair A 0))
       (less-isLess (cornerGap pair A 0 .gap) (b .gap) (outside-above B A b 0 (q .stored) (p 0 (some A)))))
-  overall-worse (Some a) None p q =
+  overall-worse (Worst a) None p q =
       sym (ap (λ (t : Bool). cond t (cornerGap pair B 0) a)
       (notGreater-isLess (a .gap) (cornerGap pair B 0 .gap)
       (less-notGreater (cornerGap pair B 0 .gap) (a .gap) (outside-above A B a 0 (p .stored) (q 0 (some B))))))
-  overall-worse (Some a) (Some b) p q = refl
+  overall-worse (Worst a) (Worst b) p q = refl
 
   -- so it is the answer
   overall-answers : (a b : WorstSoFar) → SideWorst pair A a → SideWorst pair B b → IsAnswer pair (orFirstWithin pair (overall a b))
@@ -155,7 +156,7 @@ module _ (pair : Pair) (polygons : Polygons pair) where
           → (x : CornerGap) → Of s (λ j. j ≡ n) x → NotLater (w .side) (w .corner) (x .side) (x .corner)
       order w among x (on, e) = elim among [
         | inl t ↦ later w x t on
-        | inr of ↦ rw (of .0, on) (same-side s (w .corner) (x .corner) (omega (arith, of .1)))
+        | inr of ↦ rw (of .0, on) (not-later-on-side s (w .corner) (x .corner) (omega (arith, of .1)))
       ]
 
   -- A's corner 0, A's corners, B's corners

@@ -3,14 +3,11 @@
 --     Extremes            it is one, and the corner and its nearest feature are both extreme in it
 --     greatest-extreme    so it is for a corner that has the greatest gap of its side, if it is outside the other piece
 --     corners-reach       Lemma 2 of report 83-442, for every position: no point of a piece has a greater gap than some corner
---     gap-none-nearer     no point of the other piece is nearer to a corner than the point of its gap
---     gap-positive        a gap has a lower number above 0
 --     greatest-directed   the greatest gap of a side's corners is the distance from its piece to the other, squared
 --     answer-hausdorff    the answer's gap is the Hausdorff distance, squared
 use Prim.Native.Nat.{ℕ, _<_}
-use mathlib.Core.Path.{_≡_, refl, ap}
+use mathlib.Core.Path.{_≡_, ap}
 use mathlib.Core.List.{List, [], _∷_, _++_}
-use lib.Dec.{ltb→lt}
 use lib.IntN.{ℤ, pos, natAbs}
 use lib.ListN.{length}
 use lib.Signed.{_≤ℤ_, _<ℤ_}
@@ -22,7 +19,7 @@ use Rattle.integers.proofs.Certificate.{_≺_, _≗_, hyp, eqn, _⊞_, _⊠_, p
 use Rattle.plane.specs.declared.Corner.{Corner}
 use Rattle.plane.specs.declared.Point.{Point}
 use Rattle.plane.specs.declared.Vector.{Vector}
-use Rattle.plane.specs.Point.{whole, _⇢_, NotFarther}
+use Rattle.plane.specs.Point.{whole, _⇢_}
 use Rattle.plane.specs.Vector.{_⇀_, cross, dot, coordinates}
 use Rattle.plane.proofs.Algebra.{VecE, O, vec, crossE, dotE, _⇀E_, dot-self}
 use Rattle.plane.proofs.Points.{wholeE, _⇢E_, whole-proper, whole-⇢}
@@ -30,15 +27,13 @@ use Rattle.outline.specs.Convex.{Polygon}
 use Rattle.outline.specs.Corners.{corner}
 use Rattle.nearest.specs.declared.Feature.{Feature}
 use Rattle.nearest.specs.declared.Feature.the-variants.{Within, Corner as AtCorner, Edge as OnEdge}
-use Rattle.nearest.specs.declared.NearestPoint.{NearestPoint}
 use Rattle.nearest.specs.Feature.{footOn, values}
 use Rattle.nearest.specs.Local.{Tested, nearest, feature}
-use Rattle.nearest.specs.Nearest.{SquaredDistance}
 use Rattle.nearest.specs.Piece.{edge, InPiece, Outside}
 use Rattle.nearest.specs.Scaling.{nearestAt}
-use Rattle.nearest.proofs.AnswerLaws.{feature-tested, tested-answers, answers-iff, nearest-distance, gap-zero-iff}
+use Rattle.nearest.proofs.AnswerLaws.{feature-tested, tested-answers, gap-zero-iff}
 use Rattle.nearest.proofs.LocalLaws.{length-above-0}
-use Rattle.nearest.proofs.NearestLaws.{nearest-bound, none-nearer}
+use Rattle.nearest.proofs.NearestLaws.{nearest-bound}
 use Rattle.nearest.proofs.Scaling.{nearestAt-is, nearestAt-distance}
 use Rattle.nearest.proofs.Support.{corner-in-piece, support}
 use Rattle.nearest.proofs.Walk.{edge-test}
@@ -46,11 +41,12 @@ use Rattle.hausdorff.specs.declared.Side.{Side}
 use Rattle.hausdorff.specs.declared.CornerGap.{CornerGap}
 use Rattle.hausdorff.specs.Pair.{Pair, other, Polygons}
 use Rattle.hausdorff.specs.CornerGap.{cornerGap}
-use Rattle.hausdorff.specs.Figure.{IsGap, IsAnswer}
-use Rattle.hausdorff.specs.Hausdorff.{NotBeyond, AtMost, AtLeast, Directed, Hausdorff}
+use Rattle.hausdorff.specs.Answer.{IsAnswer}
+use Rattle.hausdorff.specs.Hausdorff.{NotBeyond, DistanceAtMost, DistanceAtLeast, Directed, Hausdorff}
 use Rattle.plane.proofs.Halves.{NonZero}
 use Rattle.hausdorff.proofs.Extreme.{ExtremeCorner, ExtremeFeature, corner-extreme-iff}
 use Rattle.integers.proofs.FractionOrder.{notGreater-trans}
+use Rattle.hausdorff.proofs.GapLaws.{gap-is, gap-iff, gap-distance, gap-positive, gap-none-nearer}
 use Rattle.hausdorff.proofs.HalfPlane.{half-plane, not-ahead, gap-zero, not-beyond, not-nearer}
 
 -- The vector to v from its foot on the line through p along e. As expressions: p, v, e and the foot's lower number, which is |e|².
@@ -116,26 +112,14 @@ module _ (pair : Pair) (polygons : Polygons pair) where
     pub corner-extreme : ExtremeCorner (pair s) (outward s i) i
     pub feature-extreme : ExtremeFeature (pair (other s)) (outward s i) (feature (pair (other s)) (corner (pair s) i))
 
-  -- `cornerGap` is the gap of the definition
-  gap-is : (s : Side) (i : ℕ) → i < length (pair s) → IsGap pair (cornerGap pair s i)
-  gap-is s i below = record { known = below; answers = answers-iff (polygons (other s)) (corner (pair s) i) _ .1 refl }
-
-  -- and the squared distance of its point
-  distance : (s : Side) (i : ℕ) → SquaredDistance (whole (corner (pair s) i)) (cornerGap pair s i .point) (cornerGap pair s i .gap)
-  distance s i = nearest-distance (polygons (other s)) (corner (pair s) i)
-
-  -- which has such a lower number
-  pub gap-positive : (s : Side) (i : ℕ) → 0 < cornerGap pair s i .gap .lower
-  gap-positive s i = ltb→lt 0 _ (distance s i .lower-positive .lt)
-
   -- were another corner ahead of it, that would have a greater gap
   pub greatest-extreme : (s : Side) (i : ℕ) → i < length (pair s) → Outside (pair (other s)) (whole (corner (pair s) i))
       → ((j : ℕ) → j < length (pair s) → NotGreater (cornerGap pair s j .gap) (cornerGap pair s i .gap)) → Extremes s i
   greatest-extreme s i below outside greatest =
       let v = corner (pair s) i in let polygon = polygons (other s) in record {
-        nonzero = ≰ℤ-<ℤ (λ close. outside (gap-zero-iff polygon v .0 (gap-zero (distance s i) close)));
-        corner-extreme = extreme-corner (polygons s) (outward s i) i below (λ j known. not-ahead (distance s i) (distance s j)
-            (nearest-bound polygon (whole-proper v) (gap-is s i below .answers .nearest) (gap-is s j known .answers .nearest .in-piece))
+        nonzero = ≰ℤ-<ℤ (λ close. outside (gap-zero-iff polygon v .0 (gap-zero (gap-distance pair polygons s i) close)));
+        corner-extreme = extreme-corner (polygons s) (outward s i) i below (λ j known. not-ahead (gap-distance pair polygons s i) (gap-distance pair polygons s j)
+            (nearest-bound polygon (whole-proper v) (gap-is pair polygons s i below .answers .nearest) (gap-is pair polygons s j known .answers .nearest .in-piece))
             (greatest j known));
         feature-extreme = extreme-feature polygon v outside (feature (pair (other s)) v) (feature-tested (pair (other s)) v);
       }
@@ -148,44 +132,38 @@ module _ (pair : Pair) (polygons : Polygons pair) where
       let (w, below, extreme) = support (polygons s) (nearestAt (pair (other s)) p .point ⇢ p) in (
         w,
         below,
-        half-plane (nearestAt-distance polygon p (inside .proper)) (distance s w)
-            (nearest-bound polygon (inside .proper) nearest (gap-is s w below .answers .nearest .in-piece)) (extreme p inside),
+        half-plane (nearestAt-distance polygon p (inside .proper)) (gap-distance pair polygons s w)
+            (nearest-bound polygon (inside .proper) nearest (gap-is pair polygons s w below .answers .nearest .in-piece)) (extreme p inside),
       )
 
-  -- the same of points
+  -- so p is not farther from its nearest point than that corner's gap
   pub corners-reach : (s : Side) (p : Point) → InPiece (pair s) p
       → (w : ℕ) × (w < length (pair s)) × NotBeyond (cornerGap pair s w .gap) p (nearestAt (pair (other s)) p .point)
   corners-reach s p inside =
       let (w, below, reach) = gap-reach s p inside in
       (w, below, not-beyond (nearestAt-distance (polygons (other s)) p (inside .proper)) (cornerGap pair s w .gap) reach)
 
-  -- a gap is that of the nearest point
-  pub gap-none-nearer : (w : CornerGap) → IsGap pair w → (z : Point) → InPiece (pair (other (w .side))) z
-      → NotFarther (whole (corner (pair (w .side)) (w .corner))) (w .point) z
-  gap-none-nearer w is z =
-      none-nearer (polygons (other (w .side))) (whole-proper (corner (pair (w .side)) (w .corner))) (is .answers .nearest)
-
   -- where no corner of a side has a gap above g, no point of its piece has
   at-most : (s : Side) (g : Fraction) → ((j : ℕ) → j < length (pair s) → NotGreater (cornerGap pair s j .gap) g)
-      → AtMost g (pair s) (pair (other s))
+      → DistanceAtMost g (pair s) (pair (other s))
   at-most s g most p inside =
       let polygon = polygons (other s) in let q = nearestAt (pair (other s)) p in let (k, below, reach) = gap-reach s p inside in
-      let less = notGreater-trans (q .gap) (cornerGap pair s k .gap) g (gap-positive s k) reach (most k below) in
+      let less = notGreater-trans (q .gap) (cornerGap pair s k .gap) g (gap-positive pair polygons s k) reach (most k below) in
       (q .point, nearestAt-is polygon p (inside .proper) .in-piece, not-beyond (nearestAt-distance polygon p (inside .proper)) g less)
 
   -- and no point of the other piece is nearer to a corner than its gap
-  at-least : (s : Side) (i : ℕ) → i < length (pair s) → AtLeast (cornerGap pair s i .gap) (pair s) (pair (other s))
+  at-least : (s : Side) (i : ℕ) → i < length (pair s) → DistanceAtLeast (cornerGap pair s i .gap) (pair s) (pair (other s))
   at-least s i below = (
     whole (corner (pair s) i),
     corner-in-piece (polygons s) i below,
-    λ q inside. not-nearer (distance s i) q (gap-none-nearer (cornerGap pair s i) (gap-is s i below) q inside),
+    λ q inside. not-nearer (gap-distance pair polygons s i) q (gap-none-nearer pair polygons (cornerGap pair s i) (gap-is pair polygons s i below) q inside),
   )
 
   pub greatest-directed : (s : Side) (i : ℕ) → i < length (pair s)
       → ((j : ℕ) → j < length (pair s) → NotGreater (cornerGap pair s j .gap) (cornerGap pair s i .gap))
       → Directed (pair s) (pair (other s)) (cornerGap pair s i .gap)
   greatest-directed s i below greatest = record {
-    lower-positive = gap-positive s i;
+    lower-positive = gap-positive pair polygons s i;
     at-most = at-most s (cornerGap pair s i .gap) greatest;
     at-least = at-least s i below;
   }
@@ -193,10 +171,9 @@ module _ (pair : Pair) (polygons : Polygons pair) where
   pub answer-hausdorff : (w : CornerGap) → IsAnswer pair w → Hausdorff pair (w .gap)
   answer-hausdorff w is =
       let s = w .side in let i = w .corner in
-      let same : w .gap ≡ cornerGap pair s i .gap =
-      ap (λ (a : NearestPoint). a .gap) (answers-iff (polygons (other s)) (corner (pair s) i) _ .0 (is .is-gap .answers)) in
+      let same : w .gap ≡ cornerGap pair s i .gap = ap (λ (z : CornerGap). z .gap) (gap-iff pair polygons w .0 (is .is-gap) .1) in
       record {
-        lower-positive = rw same (gap-positive s i);
-        at-most = λ t. at-most t (w .gap) (λ j below. is .greatest (cornerGap pair t j) (gap-is t j below));
+        lower-positive = rw same (gap-positive pair polygons s i);
+        at-most = λ t. at-most t (w .gap) (λ j below. is .greatest (cornerGap pair t j) (gap-is pair polygons t j below));
         at-least = (s, rw same (at-least s i (is .is-gap .known)));
       }

@@ -6,23 +6,24 @@ use borrow.Author.Tests.{lt-ltb, le-ltb}
 use Rattle.integers.proofs.RootLaws.{floor-root}
 use Rattle.outline.proofs.Acceptance.{accepted-polygon}
 use Rattle.hausdorff.specs.declared.CornerGap.{CornerGap}
-use Rattle.hausdorff.specs.declared.WorstSoFar.the-variants.{Worst as Some}
+use Rattle.hausdorff.specs.declared.WorstSoFar.the-variants.{Worst}
 use Rattle.hausdorff.specs.Pair.{Pair, AcceptedPair, Polygons, stepCount}
 use Rattle.hausdorff.specs.Sweep.{worstSoFar}
 use Rattle.hausdorff.specs.Report.{answer, report}
 use Rattle.hausdorff.specs.Exhaustive.{exhaustive}
-use Rattle.hausdorff.specs.Figure.{IsGap}
+use Rattle.hausdorff.specs.Answer.{IsGap}
 use Rattle.hausdorff.specs.Law.{Law}
 use Rattle.hausdorff.proofs.OverallWorst.{worst-counted}
 use Rattle.hausdorff.proofs.AnswerLaws.{answer-unique, sweep-answers, search-answers}
-use Rattle.hausdorff.proofs.DistanceLaws.{answer-hausdorff, gap-none-nearer}
+use Rattle.hausdorff.proofs.DistanceLaws.{answer-hausdorff}
+use Rattle.hausdorff.proofs.GapLaws.{gap-none-nearer}
 
 module _ (pair : Pair) (accepted : AcceptedPair pair) (allowance : ℕ) where
   polygons : Polygons pair
   polygons s = accepted-polygon (accepted s)
 
   -- the worst so far is one of the gaps that have been counted
-  worst-gap : (w : CornerGap) → worstSoFar pair allowance ≡ Some w → IsGap pair w
+  worst-gap : (w : CornerGap) → worstSoFar pair allowance ≡ Worst w → IsGap pair w
   worst-gap w is = worst-counted pair polygons allowance w is .is-gap
 
   pub law : Law pair allowance (report pair allowance)

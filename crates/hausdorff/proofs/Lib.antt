@@ -1,13 +1,14 @@
 -- The law of demand 3, in the order of the argument.
 pub mod GoesRound
-pub mod LowestLaws
 pub mod SortLaws
 pub mod OrderLaws
+pub mod LowestLaws
 pub mod Extreme
 pub mod ExtremeLaws
 pub mod Cut
 pub mod SweepLaws
 pub mod CountingLaws
+pub mod GapLaws
 pub mod HalfPlane
 pub mod DistanceLaws
 pub mod Preference

@@ -9,7 +9,7 @@ use Rattle.hausdorff.specs.declared.Side.{Side}
 use Rattle.hausdorff.specs.declared.Side.the-variants.{A, B}
 use Rattle.hausdorff.specs.declared.CornerGap.{CornerGap}
 use Rattle.hausdorff.specs.declared.WorstSoFar.{WorstSoFar}
-use Rattle.hausdorff.specs.declared.WorstSoFar.the-variants.{None, Worst as Some}
+use Rattle.hausdorff.specs.declared.WorstSoFar.the-variants.{None, Worst}
 use Rattle.hausdorff.specs.Pair.{Pair, Polygons}
 use Rattle.hausdorff.specs.CornerGap.{cornerGap}
 use Rattle.hausdorff.specs.Worst.{overall}
@@ -20,24 +20,24 @@ use Rattle.hausdorff.proofs.WorstLaws.{Stored, stored, Counted, WorstAf
 -- it leads among some gaps, or is none where there are none of these
 abbrev LeadsOrNone : Pair → (CornerGap → Type 0) → WorstSoFar → Type 0
 LeadsOrNone pair T None = (z : CornerGap) → ¬ T z
-LeadsOrNone pair T (Some w) = Leads pair T w
+LeadsOrNone pair T (Worst w) = Leads pair T w
 
 module _ (pair : Pair) (polygons : Polygons pair) where
   -- what leads on A or on B, or the worse of both, leads on both
   overall-leads : (Q : Side → ℕ → Type 0) (a b : WorstSoFar) → LeadsOrNone pair (Of A (Q A)) a → LeadsOrNone pair (Of B (Q B)) b
       → LeadsOrNone pair (λ z. Q (z .side) (z .corner)) (overall a b)
   overall-leads Q None None p q = λ z holds. ⊎-elim (p z) (q z) (by-side Q z .1 holds)
-  overall-leads Q None (Some b) p q =
+  overall-leads Q None (Worst b) p q =
       leads-map (λ z is. Iff·trans (inr, ⊎-elim (λ of. absurd (p z of)) (λ of. of)) (by-side Q z)) q
-  overall-leads Q (Some a) None p q =
+  overall-leads Q (Worst a) None p q =
       leads-map (λ z is. Iff·trans (inl, ⊎-elim (λ of. of) (λ of. absurd (q z of))) (by-side Q z)) p
-  overall-leads Q (Some a) (Some b) p q = leads-both pair polygons Q a b p q
+  overall-leads Q (Worst a) (Worst b) p q = leads-both pair polygons Q a b p q
 
   -- a side's worst so far leads among what has been counted of it
   side-counted : (k : ℕ) (s : Side) (x : WorstSoFar) → Stored pair s x → WorstAfter pair s k x
       → LeadsOrNone pair (Of s (Counted pair s k)) x
   side-counted k s None is none = λ z of. none (z .corner) (of .1)
-  side-counted k s (Some w) is most =
+  side-counted k s (Worst w) is most =
       let one : most .number ≡ is .number = ap (λ (x : CornerGap). x .corner) (sym (most .is) ∙ is .is) in
       leads-of pair polygons s (Counted pair s k) (most .number) w (most .is) (omega (arith, is .is-outside .known)) (most .counted)
       (most .preferred)
@@ -51,8 +51,8 @@ module _ (pair : Pair) (polygons : Polygons pair) where
       side : (s : Side) → LeadsOrNone pair (Of s (Counted pair s k)) (after pair k .worst s)
       side s = side-counted k s (after pair k .worst s) (stored pair polygons k s) (worst-after pair polygons k s)
 
-  pub worst-counted : (k : ℕ) (w : CornerGap) → worstSoFar pair k ≡ Some w → Leads pair (λ z. Counted pair (z .side) k (z .corner)) w
-  worst-counted k w = both-counted k (Some w)
+  pub worst-counted : (k : ℕ) (w : CornerGap) → worstSoFar pair k ≡ Worst w → Leads pair (λ z. Counted pair (z .side) k (z .corner)) w
+  worst-counted k w = both-counted k (Worst w)
 
   pub none-counted : (k : ℕ) → worstSoFar pair k ≡ None → (s : Side) (i : ℕ) → ¬ Counted pair s k i
   none-counted k is s i = both-counted k None is (cornerGap pair s i)

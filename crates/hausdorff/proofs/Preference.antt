@@ -3,28 +3,18 @@
 --     preferred-refl, preferred-trans     it is a preorder, on gaps with a lower number above 0
 --     taken-preferred                     what `takesPlace` takes is preferred over what it leaves
 --     Foremost, foremost                  a number below n that is preferred over all below n; there is one, unless n is 0
---     least-iff                           a gap is not greater than that of a corner within exactly where its own corner is within
 use Prim.Native.Nat.{ℕ, zero, suc, _<_, _≤_}
 use mathlib.Core.Path.{_≡_, refl}
-use mathlib.Core.Logic.{_↔_, inl, inr, Iff·trans}
 use mathlib.Core.Bool.{Bool, true, false, cond, not, _&&_, _||_}
 use native.Mathlib.Decide.{ℕ-discrete}
-use native.Mathlib.Nat.{zero-mul, mul-pos, eq-zero-or-pos}
 use native.Mathlib.Omega.{arith}
 use borrow.Author.Tests.{ltb-true, ltb-false}
 use lib.Dec.{ltb}
-use Rattle.integers.specs.declared.fraction.Fraction.{Fraction}
 use Rattle.integers.specs.Fraction.{isLess, NotGreater}
-use Rattle.plane.specs.Point.{whole}
 use Rattle.outline.specs.Corners.{corner}
-use Rattle.nearest.specs.Piece.{InPiece}
-use Rattle.nearest.proofs.AnswerLaws.{gap-zero-iff}
-use Rattle.hausdorff.specs.declared.Side.{Side}
 use Rattle.hausdorff.specs.declared.CornerGap.{CornerGap}
-use Rattle.hausdorff.specs.Pair.{Pair, other, Polygons}
-use Rattle.hausdorff.specs.CornerGap.{cornerGap}
+use Rattle.hausdorff.specs.Pair.{other}
 use Rattle.hausdorff.specs.Worst.{takesPlace}
-use Rattle.hausdorff.proofs.DistanceLaws.{gap-positive}
 use Rattle.integers.proofs.FractionOrder.{notGreater-refl, notGreater-trans, isLess-true, isLess-false, less-notGreater}
 
 pub record Preferred (shown : ℕ → ℕ) (w z : CornerGap) : Type 0 where
@@ -103,22 +93,3 @@ module _ (shown : ℕ → ℕ) where
           below = omega arith;
           preferred = one-more (suc n) (f (best .place)) (best .preferred) p;
         }
-
--- only 0 is not greater than 0
-not-above-0 : (f g : Fraction) → 0 < g .lower → g .upper ≡ 0 → NotGreater f g ↔ (f .upper ≡ 0)
-not-above-0 f g some none = (
-  λ not-greater. elim (eq-zero-or-pos (f .upper)) [
-    | inl is ↦ is
-    | inr above ↦ absurd (omega (arith, mul-pos above some, rw (none, zero-mul) at not-greater))
-  ],
-  λ is. rw (is, zero-mul) (omega arith),
-)
-
-module _ (pair : Pair) (polygons : Polygons pair) where
-  -- a gap that is not greater than that of a corner within is that of a corner within
-  pub least-iff : (s t : Side) (i j : ℕ) → InPiece (pair (other t)) (whole (corner (pair t) j))
-      → NotGreater (cornerGap pair s i .gap) (cornerGap pair t j .gap) ↔ InPiece (pair (other s)) (whole (corner (pair s) i))
-  least-iff s t i j inside = Iff·trans
-      (not-above-0 (cornerGap pair s i .gap) (cornerGap pair t j .gap) (gap-positive pair polygons t j)
-      (gap-zero-iff (polygons (other t)) (corner (pair t) j) .1 inside))
-      (gap-zero-iff (polygons (other s)) (corner (pair s) i))

@@ -15,19 +15,19 @@ use Rattle.nearest.proofs.PieceLaws.{outside-test, inside-test}
 use Rattle.hausdorff.specs.declared.Side.{Side}
 use Rattle.hausdorff.specs.declared.CornerGap.{CornerGap}
 use Rattle.hausdorff.specs.declared.WorstSoFar.{WorstSoFar}
-use Rattle.hausdorff.specs.declared.WorstSoFar.the-variants.{None, Worst as Some}
+use Rattle.hausdorff.specs.declared.WorstSoFar.the-variants.{None, Worst}
 use Rattle.hausdorff.specs.Pair.{Pair, other, stepCount, Polygons}
 use Rattle.hausdorff.specs.CornerGap.{cornerGap}
 use Rattle.hausdorff.specs.Worst.{shownNumber}
 use Rattle.hausdorff.specs.Sweep.{after}
 use Rattle.hausdorff.proofs.GoesRound.{polygon-goes-round}
 use Rattle.hausdorff.proofs.SweepLaws.{meets-corner}
-use Rattle.hausdorff.proofs.DistanceLaws.{outward, greatest-extreme, gap-positive}
+use Rattle.hausdorff.proofs.DistanceLaws.{outward, greatest-extreme}
 use Rattle.hausdorff.proofs.Preference.{Preferred, Foremost, foremost}
-use Rattle.hausdorff.proofs.Preference.{least-iff}
 use Rattle.hausdorff.specs.Hausdorff.{Directed}
 use Rattle.hausdorff.proofs.DistanceLaws.{greatest-directed}
 use Rattle.hausdorff.proofs.WorstLaws.{IsOutsideCorner, StoredAs, Stored, stored, Counted, WorstAfter, worst-after, stored-over, met-counted}
+use Rattle.hausdorff.proofs.GapLaws.{gap-positive, least-iff}
 
 pub record PreferredCorner (pair : Pair) (s : Side) (w : CornerGap) : Type 0 where
   pub stored : StoredAs pair s w
@@ -35,13 +35,13 @@ pub record PreferredCorner (pair : Pair) (s : Side) (w : CornerGap) : Type 0 whe
 
 abbrev pub SideWorst : Pair → Side → WorstSoFar → Type 0
 SideWorst pair s None = (i : ℕ) → i < length (pair s) → InPiece (pair (other s)) (whole (corner (pair s) i))
-SideWorst pair s (Some w) = PreferredCorner pair s w
+SideWorst pair s (Worst w) = PreferredCorner pair s w
 
 module _ (pair : Pair) (polygons : Polygons pair) where
   -- nothing is stored for a side of which every corner is within
   none-stored : (s : Side) → SideWorst pair s None → (x : WorstSoFar) → Stored pair s x → SideWorst pair s x
   none-stored s within None is = within
-  none-stored s within (Some w) is = absurd (is .is-outside .outside (within (is .number) (is .is-outside .known)))
+  none-stored s within (Worst w) is = absurd (is .is-outside .outside (within (is .number) (is .is-outside .known)))
 
   module _ (s : Side) (best : Foremost (shownNumber pair s) (cornerGap pair s) (length (pair s)))
       (is-outside : IsOutsideCorner pair s (best .place)) where
@@ -57,7 +57,7 @@ module _ (pair : Pair) (polygons : Polygons pair) where
     -- What is stored is then preferred over it, and so over all.
     best-stored : (x : WorstSoFar) → Stored pair s x → WorstAfter pair s (stepCount pair) x → SideWorst pair s x
     best-stored None is none = absurd (none (best .place) best-counted)
-    best-stored (Some w) is most = record {
+    best-stored (Worst w) is most = record {
       stored = is;
       preferred = λ j below. stored-over pair polygons s j w (cornerGap pair s (best .place)) is
           (record { number = best .place; is-outside = is-outside; is = refl })
@@ -87,7 +87,7 @@ module _ (pair : Pair) (polygons : Polygons pair) where
           (after pair (stepCount pair) .worst s) (stored pair polygons (stepCount pair) s)
 
   -- so its gap is the greatest of the side
-  pub side-directed : (s : Side) (w : CornerGap) → after pair (stepCount pair) .worst s ≡ Some w
+  pub side-directed : (s : Side) (w : CornerGap) → after pair (stepCount pair) .worst s ≡ Worst w
       → Directed (pair s) (pair (other s)) (w .gap)
   side-directed s w is =
       let here : PreferredCorner pair s w = subst (SideWorst pair s) is (side-worst s) in let same = here .stored .is in

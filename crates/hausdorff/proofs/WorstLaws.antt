@@ -23,7 +23,7 @@ use Rattle.nearest.proofs.PieceLaws.{outside-test}
 use Rattle.hausdorff.specs.declared.Side.{Side}
 use Rattle.hausdorff.specs.declared.CornerGap.{CornerGap}
 use Rattle.hausdorff.specs.declared.WorstSoFar.{WorstSoFar}
-use Rattle.hausdorff.specs.declared.WorstSoFar.the-variants.{None, Worst as Some}
+use Rattle.hausdorff.specs.declared.WorstSoFar.the-variants.{None, Worst}
 use Rattle.hausdorff.specs.Pair.{Pair, other, sameSide, stepCount, Polygons}
 use Rattle.hausdorff.specs.AngularOrder.{PairEdge, angularOrder}
 use Rattle.hausdorff.specs.Counting.{isCounted}
@@ -35,8 +35,8 @@ use Rattle.hausdorff.proofs.OrderLaws.{Rounds, order-length}
 use Rattle.hausdorff.proofs.Extreme.{AtSupport}
 use Rattle.hausdorff.proofs.SweepLaws.{Met, support-below}
 use Rattle.hausdorff.proofs.CountingLaws.{counted-iff}
-use Rattle.hausdorff.proofs.DistanceLaws.{gap-positive}
 use Rattle.hausdorff.proofs.Preference.{Preferred, preferred-refl, preferred-trans, taken-preferred}
+use Rattle.hausdorff.proofs.GapLaws.{gap-positive}
 
 -- a corner of the side that is not within the other piece
 pub record IsOutsideCorner (pair : Pair) (s : Side) (i : ℕ) : Type 0 where
@@ -50,7 +50,7 @@ pub record StoredAs (pair : Pair) (s : Side) (w : CornerGap) : Type 0 where
 
 abbrev pub Stored : Pair → Side → WorstSoFar → Type 0
 Stored pair s None = Unit {0}
-Stored pair s (Some w) = StoredAs pair s w
+Stored pair s (Worst w) = StoredAs pair s w
 
 -- corner i is the side's support corner, and counts
 abbrev pub Counts : Pair → Side → ℕ → (Side → ℕ) → Type 0
@@ -69,10 +69,10 @@ pub record GreatestCounted (pair : Pair) (s : Side) (k : ℕ) (w : CornerGap) : 
 
 abbrev pub WorstAfter : Pair → Side → ℕ → WorstSoFar → Type 0
 WorstAfter pair s k None = (i : ℕ) → ¬ Counted pair s k i
-WorstAfter pair s k (Some w) = GreatestCounted pair s k w
+WorstAfter pair s k (Worst w) = GreatestCounted pair s k w
 
 -- none is not a corner
-none-some : {w : CornerGap} → ¬ (None ≡ Some w)
+none-some : {w : CornerGap} → ¬ (None ≡ Worst w)
 none-some is = let z : _≡_ {A = ℕ} 0 1 = cc in omega arith
 
 -- both support corners are corners of their outlines
@@ -87,7 +87,7 @@ record Running (pair : Pair) (s : Side) (sweep : Sweep) : Type 0 where
 -- the corner that is stored, if any, is preferred over corner i
 abbrev AtLeast : Pair → Side → ℕ → WorstSoFar → Type 0
 AtLeast pair s i None = ⊥
-AtLeast pair s i (Some w) = Preferred (shownNumber pair s) w (cornerGap pair s i)
+AtLeast pair s i (Worst w) = Preferred (shownNumber pair s) w (cornerGap pair s i)
 
 module _ (pair : Pair) (polygons : Polygons pair) where
   -- passing an edge leads to a corner of its outline
@@ -109,7 +109,7 @@ module _ (pair : Pair) (polygons : Polygons pair) where
     measured-stored support known = go (isOutside (pair (other s)) (corner (pair s) (support s))) _ refl
       where
         go : (t u : Bool) → isOutside (pair (other s)) (corner (pair s) (support s)) ≡ t
-            → Stored pair s (cond (t && u) (Some (cornerGap pair s (support s))) None)
+            → Stored pair s (cond (t && u) (Worst (cornerGap pair s (support s))) None)
         go true true outside = record {
           number = support s;
           is-outside = record { known = known s; outside = outside-test (pair (other s)) (corner (pair s) (support s)) .0 outside };
@@ -121,8 +121,8 @@ module _ (pair : Pair) (polygons : Polygons pair) where
     -- what is kept is one of the two
     keep-stored : (old new : WorstSoFar) → Stored pair s old → Stored pair s new → Stored pair s (keep (shownNumber pair s) old new)
     keep-stored None new was is = is
-    keep-stored (Some old) None was is = was
-    keep-stored (Some old) (Some new) was is = go (takesPlace (shownNumber pair s) new old)
+    keep-stored (Worst old) None was is = was
+    keep-stored (Worst old) (Worst new) was is = go (takesPlace (shownNumber pair s) new old)
       where
         go : (t : Bool) → StoredAs pair s (cond t new old)
         go true = is
@@ -141,8 +141,8 @@ module _ (pair : Pair) (polygons : Polygons pair) where
     keep-at-least : (i : ℕ) (old new : WorstSoFar) → Stored pair s old → Stored pair s new
         → AtLeast pair s i old ⊎ AtLeast pair s i new → AtLeast pair s i (keep (shownNumber pair s) old new)
     keep-at-least i None new was is found = elim found [ inl none ↦ absurd none | inr p ↦ p ]
-    keep-at-least i (Some old) None was is found = elim found [ inl p ↦ p | inr none ↦ absurd none ]
-    keep-at-least i (Some old) (Some new) was is found =
+    keep-at-least i (Worst old) None was is found = elim found [ inl p ↦ p | inr none ↦ absurd none ]
+    keep-at-least i (Worst old) (Worst new) was is found =
         go (takesPlace (shownNumber pair s) new old) (taken-preferred (shownNumber pair s) new old)
       where
         go : (t : Bool) → Preferred (shownNumber pair s) (cond t new old) (cond t old new)
@@ -173,28 +173,28 @@ module _ (pair : Pair) (polygons : Polygons pair) where
     }
 
     -- nothing is stored before step 1
-    begin-none : {w : CornerGap} → ¬ (begin pair .worst s ≡ Some w)
+    begin-none : {w : CornerGap} → ¬ (begin pair .worst s ≡ Worst w)
     unfolding begin
     begin-none is = none-some is
 
     -- what is kept is one of the two
-    keep-one : (old new : WorstSoFar) {w : CornerGap} → keep (shownNumber pair s) old new ≡ Some w → (old ≡ Some w) ⊎ (new ≡ Some w)
+    keep-one : (old new : WorstSoFar) {w : CornerGap} → keep (shownNumber pair s) old new ≡ Worst w → (old ≡ Worst w) ⊎ (new ≡ Worst w)
     keep-one None new is = inr is
-    keep-one (Some old) None is = inl is
-    keep-one (Some old) (Some new) {w} is = go (takesPlace (shownNumber pair s) new old) is
+    keep-one (Worst old) None is = inl is
+    keep-one (Worst old) (Worst new) {w} is = go (takesPlace (shownNumber pair s) new old) is
       where
-        go : (t : Bool) → Some (cond t new old) ≡ Some w → (Some old ≡ Some w) ⊎ (Some new ≡ Some w)
+        go : (t : Bool) → Worst (cond t new old) ≡ Worst w → (Worst old ≡ Worst w) ⊎ (Worst new ≡ Worst w)
         go true e = inr e
         go false e = inl e
 
     -- what is measured counts
-    measured-counts : (support : Side → ℕ) {w : CornerGap} → measured pair support s ≡ Some w
+    measured-counts : (support : Side → ℕ) {w : CornerGap} → measured pair support s ≡ Worst w
         → Counts pair s (support s) support × (w ≡ cornerGap pair s (support s))
     unfolding measured
     measured-counts support {w} = go (isCounted (pair (other s)) (support (other s)) (corner (pair s) (support s))) refl
       where
         go : (t : Bool) → isCounted (pair (other s)) (support (other s)) (corner (pair s) (support s)) ≡ t
-            → cond t (Some (cornerGap pair s (support s))) None ≡ Some w
+            → cond t (Worst (cornerGap pair s (support s))) None ≡ Worst w
             → Counts pair s (support s) support × (w ≡ cornerGap pair s (support s))
         go true counts is = ((refl, counts), cc)
         go false none is = absurd (none-some is)
@@ -205,8 +205,8 @@ module _ (pair : Pair) (polygons : Polygons pair) where
     counts-measured i support (is, counts) = rw (is, counts) (preferred-refl (shownNumber pair s) (cornerGap pair s i))
 
     -- what is stored was stored before or has been counted
-    found-counted : (es : List PairEdge) (sweep : Sweep) {w : CornerGap} → steps pair es sweep .worst s ≡ Some w
-        → (sweep .worst s ≡ Some w) ⊎ ((i : ℕ) × Met pair (Counts pair s i) es (sweep .support) × (w ≡ cornerGap pair s i))
+    found-counted : (es : List PairEdge) (sweep : Sweep) {w : CornerGap} → steps pair es sweep .worst s ≡ Worst w
+        → (sweep .worst s ≡ Worst w) ⊎ ((i : ℕ) × Met pair (Counts pair s i) es (sweep .support) × (w ≡ cornerGap pair s i))
     unfolding steps step
     found-counted [] sweep is = inl is
     found-counted (e ∷ es) sweep is = elim (found-counted es (step pair e sweep) is) [
@@ -252,9 +252,9 @@ module _ (pair : Pair) (polygons : Polygons pair) where
 
       go : (x : WorstSoFar) → after pair k .worst s ≡ x → WorstAfter pair s k x
       go None is = λ i counted. over None is i counted
-      go (Some w) is = elim (found-counted s (take k (angularOrder pair)) (begin pair) is) [
+      go (Worst w) is = elim (found-counted s (take k (angularOrder pair)) (begin pair) is) [
         | inl before ↦ absurd (begin-none s before)
-        | inr (i, counted, same) ↦ record { number = i; counted = counted; is = same; preferred = over (Some w) is }
+        | inr (i, counted, same) ↦ record { number = i; counted = counted; is = same; preferred = over (Worst w) is }
       ]
 
   module _ (s : Side) (i : ℕ) where

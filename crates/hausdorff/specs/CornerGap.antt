@@ -2,7 +2,10 @@
 --     named        an answer of the nearest point, with the side and the corner that it is for
 --     found        the answer alone
 --     cornerGap    corner i of a side, with what the nearest point of the other outline to it gives
+--     worse        of two, the one with the greater gap as a value; the first of equals
 use Prim.Native.Nat.{ℕ}
+use mathlib.Core.Bool.{cond}
+use Rattle.integers.specs.Fraction.{isLess}
 use Rattle.outline.specs.Corners.{corner}
 use Rattle.nearest.specs.declared.NearestPoint.{NearestPoint}
 use Rattle.nearest.specs.Local.{nearest}
@@ -18,3 +21,6 @@ found w = record { feature = w .feature; gap = w .gap; point = w .point }
 
 abbrev pub cornerGap : Pair → Side → ℕ → CornerGap
 cornerGap pair s i = named s i (nearest (pair (other s)) (corner (pair s) i))
+
+abbrev pub worse : CornerGap → CornerGap → CornerGap
+worse w z = cond (isLess (w .gap) (z .gap)) z w

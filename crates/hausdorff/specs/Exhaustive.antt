@@ -1,25 +1,19 @@
--- Document 01: the trial, an exhaustive search. It is fed the corners of A and B, and nothing from the sweep or from `nearest`.
+-- Document 01: the trial, an exhaustive search. It is fed the corners of A and B, and nothing from the sweep, nor the definition `nearest`.
 --     tried         what is found for corner i of a side, by trying every corner and edge of the other outline (`search`)
---     worse         a later corner takes the place of the worst only if its gap is greater as a value
---     tryCorners    the worst, after the corners of a side below n
+--     tryCorners    the worst, after the corners of a side below n: a later corner takes its place only if its gap is greater as a value
 --     exhaustive    A's corners by number, then B's; the worst is A's corner 0 at first
 use Prim.Native.Nat.{ℕ, zero, suc}
-use mathlib.Core.Bool.{cond}
 use lib.ListN.{length}
-use Rattle.integers.specs.Fraction.{isLess}
 use Rattle.outline.specs.Corners.{corner}
 use Rattle.nearest.specs.Search.{search}
 use Rattle.hausdorff.specs.declared.Side.{Side}
 use Rattle.hausdorff.specs.declared.Side.the-variants.{A, B}
 use Rattle.hausdorff.specs.declared.CornerGap.{CornerGap}
 use Rattle.hausdorff.specs.Pair.{Pair, other}
-use Rattle.hausdorff.specs.CornerGap.{named}
+use Rattle.hausdorff.specs.CornerGap.{named, worse}
 
 abbrev pub tried : Pair → Side → ℕ → CornerGap
 tried pair s i = named s i (search (pair (other s)) (corner (pair s) i))
-
-abbrev pub worse : CornerGap → CornerGap → CornerGap
-worse worst new = cond (isLess (worst .gap) (new .gap)) new worst
 
 unfoldable pub tryCorners : Pair → Side → CornerGap → ℕ → CornerGap
 tryCorners pair s worst zero = worst

@@ -1,7 +1,7 @@
 -- Report 83-442: the Hausdorff distance of two pieces, squared, over all their points X/D, Y/D.
 --     distanceScaled, gapScaled    the squared distance of two points and a gap, multiplied out
 --     NotBeyond, NotNearer         two points are not farther apart than the gap, or not nearer
---     AtMost, AtLeast              the distance from a piece to another, squared, is at most the gap, or at least
+--     DistanceAtMost, DistanceAtLeast              the distance from a piece to another, squared, is at most the gap, or at least
 --     Directed                     it is the gap: the greatest over the points of one of the least over the points of the other
 --     Hausdorff                    the distance between them is the gap: the greater of the two
 use Prim.Native.Nat.{_<_}
@@ -31,20 +31,20 @@ abbrev pub NotNearer : Fraction → Point → Point → Type 0
 NotNearer g p q = gapScaled g p q ≤ℤ distanceScaled g p q
 
 -- every point of the first has a point of the second within the gap
-abbrev pub AtMost : Fraction → List Corner → List Corner → Type 0
-AtMost g cs ds = (p : Point) → InPiece cs p → (q : Point) × InPiece ds q × NotBeyond g p q
+abbrev pub DistanceAtMost : Fraction → List Corner → List Corner → Type 0
+DistanceAtMost g cs ds = (p : Point) → InPiece cs p → (q : Point) × InPiece ds q × NotBeyond g p q
 
 -- some point of the first has none nearer than that
-abbrev pub AtLeast : Fraction → List Corner → List Corner → Type 0
-AtLeast g cs ds = (p : Point) × InPiece cs p × ((q : Point) → InPiece ds q → NotNearer g p q)
+abbrev pub DistanceAtLeast : Fraction → List Corner → List Corner → Type 0
+DistanceAtLeast g cs ds = (p : Point) × InPiece cs p × ((q : Point) → InPiece ds q → NotNearer g p q)
 
 pub record Directed (cs ds : List Corner) (g : Fraction) : Type 0 where
   pub lower-positive : 0 < g .lower
-  pub at-most : AtMost g cs ds
-  pub at-least : AtLeast g cs ds
+  pub at-most : DistanceAtMost g cs ds
+  pub at-least : DistanceAtLeast g cs ds
 
 -- at most the gap from each to the other, and at least the gap from one of them
 pub record Hausdorff (pair : Pair) (g : Fraction) : Type 0 where
   pub lower-positive : 0 < g .lower
-  pub at-most : (s : Side) → AtMost g (pair s) (pair (other s))
-  pub at-least : (s : Side) × AtLeast g (pair s) (pair (other s))
+  pub at-most : (s : Side) → DistanceAtMost g (pair s) (pair (other s))
+  pub at-least : (s : Side) × DistanceAtLeast g (pair s) (pair (other s))

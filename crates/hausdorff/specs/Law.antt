@@ -9,14 +9,14 @@ use Rattle.plane.specs.Point.{whole, NotFarther}
 use Rattle.outline.specs.Corners.{corner}
 use Rattle.nearest.specs.Piece.{InPiece}
 use Rattle.hausdorff.specs.declared.CornerGap.{CornerGap}
-use Rattle.hausdorff.specs.declared.WorstSoFar.the-variants.{Worst as Some}
+use Rattle.hausdorff.specs.declared.WorstSoFar.the-variants.{Worst}
 use Rattle.hausdorff.specs.declared.Report.{Report}
 use Rattle.hausdorff.specs.declared.Report.the-variants.{Spent as IsSpent, Done as IsDone}
 use Rattle.hausdorff.specs.Pair.{Pair, other, stepCount}
 use Rattle.hausdorff.specs.Sweep.{worstSoFar}
 use Rattle.hausdorff.specs.Report.{IsClearance, clearance, answer, spent, done}
 use Rattle.hausdorff.specs.Exhaustive.{exhaustive}
-use Rattle.hausdorff.specs.Figure.{IsGap, IsAnswer}
+use Rattle.hausdorff.specs.Answer.{IsGap, IsAnswer}
 use Rattle.hausdorff.specs.Hausdorff.{Hausdorff}
 
 pub record Law (pair : Pair) (allowance : ℕ) (result : Report) : Type 0 where
@@ -34,5 +34,5 @@ pub record Law (pair : Pair) (allowance : ℕ) (result : Report) : Type 0 where
   pub distance : Hausdorff pair (answer pair .gap)
   pub clearance-figure : IsClearance (answer pair .gap) (clearance (answer pair .gap))
   -- the worst so far, if there is one, is its corner's true gap, and never above the true figure
-  pub worst-is-gap : (w : CornerGap) → worstSoFar pair allowance ≡ Some w → IsGap pair w
-  pub worst-not-above : (w : CornerGap) → worstSoFar pair allowance ≡ Some w → NotGreater (w .gap) (answer pair .gap)
+  pub worst-is-gap : (w : CornerGap) → worstSoFar pair allowance ≡ Worst w → IsGap pair w
+  pub worst-not-above : (w : CornerGap) → worstSoFar pair allowance ≡ Worst w → NotGreater (w .gap) (answer pair .gap)

@@ -1,12 +1,12 @@
 -- Document 01, "Gap of one corner" and "The sweep".
 pub mod Pair
+pub mod CornerGap
+pub mod Answer
+pub mod Hausdorff
+pub mod Exhaustive
 pub mod AngularOrder
 pub mod Counting
-pub mod CornerGap
 pub mod Worst
 pub mod Sweep
 pub mod Report
-pub mod Exhaustive
-pub mod Figure
-pub mod Hausdorff
 pub mod Law

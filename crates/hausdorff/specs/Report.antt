@@ -15,7 +15,7 @@ use Rattle.nearest.specs.Feature.{withinValues}
 use Rattle.hausdorff.specs.declared.Side.the-variants.{A, B}
 use Rattle.hausdorff.specs.declared.CornerGap.{CornerGap}
 use Rattle.hausdorff.specs.declared.WorstSoFar.{WorstSoFar}
-use Rattle.hausdorff.specs.declared.WorstSoFar.the-variants.{None, Worst as Some}
+use Rattle.hausdorff.specs.declared.WorstSoFar.the-variants.{None, Worst}
 use Rattle.hausdorff.specs.declared.Spent.{Spent}
 use Rattle.hausdorff.specs.declared.Done.{Done}
 use Rattle.hausdorff.specs.declared.Report.{Report}
@@ -37,7 +37,7 @@ firstWithin pair = named A 0 (withinValues (corner (pair A) 0))
 -- a worst so far, or that
 abbrev pub orFirstWithin : Pair → WorstSoFar → CornerGap
 orFirstWithin pair None = firstWithin pair
-orFirstWithin pair (Some w) = w
+orFirstWithin pair (Worst w) = w
 
 abbrev pub answer : Pair → CornerGap
 answer pair = orFirstWithin pair (worstSoFar pair (stepCount pair))

@@ -15,7 +15,7 @@ use Rattle.outline.specs.Corners.{corner, next}
 use Rattle.hausdorff.specs.declared.Side.{Side}
 use Rattle.hausdorff.specs.declared.Side.the-variants.{A, B}
 use Rattle.hausdorff.specs.declared.WorstSoFar.{WorstSoFar}
-use Rattle.hausdorff.specs.declared.WorstSoFar.the-variants.{None, Worst as Some}
+use Rattle.hausdorff.specs.declared.WorstSoFar.the-variants.{None, Worst}
 use Rattle.hausdorff.specs.Pair.{Pair, other, sameSide}
 use Rattle.hausdorff.specs.AngularOrder.{PairEdge, angularOrder, own, headOr}
 use Rattle.hausdorff.specs.Counting.{isCounted}
@@ -33,7 +33,7 @@ begin pair = record { support = λ s. headOr 0 (own s (angularOrder pair)); wors
 
 unfoldable pub measured : Pair → (Side → ℕ) → Side → WorstSoFar
 measured pair support s =
-    cond (isCounted (pair (other s)) (support (other s)) (corner (pair s) (support s))) (Some (cornerGap pair s (support s))) None
+    cond (isCounted (pair (other s)) (support (other s)) (corner (pair s) (support s))) (Worst (cornerGap pair s (support s))) None
 
 -- passing an edge moves that outline's corner in touch to the end of the edge
 abbrev pub passed : Pair → PairEdge → (Side → ℕ) → Side → ℕ

@@ -10,8 +10,9 @@ use Rattle.integers.specs.Fraction.{isLess}
 use Rattle.hausdorff.specs.declared.Side.{Side}
 use Rattle.hausdorff.specs.declared.CornerGap.{CornerGap}
 use Rattle.hausdorff.specs.declared.WorstSoFar.{WorstSoFar}
-use Rattle.hausdorff.specs.declared.WorstSoFar.the-variants.{None, Worst as Some}
+use Rattle.hausdorff.specs.declared.WorstSoFar.the-variants.{None, Worst}
 use Rattle.hausdorff.specs.Pair.{Pair}
+use Rattle.hausdorff.specs.CornerGap.{worse}
 
 abbrev pub shownNumber : Pair → Side → ℕ → ℕ
 shownNumber pair s i = i
@@ -24,10 +25,10 @@ takesPlace shown new old =
 
 abbrev pub keep : (ℕ → ℕ) → WorstSoFar → WorstSoFar → WorstSoFar
 keep shown None new = new
-keep shown (Some old) None = Some old
-keep shown (Some old) (Some new) = Some (cond (takesPlace shown new old) new old)
+keep shown (Worst old) None = Worst old
+keep shown (Worst old) (Worst new) = Worst (cond (takesPlace shown new old) new old)
 
 abbrev pub overall : WorstSoFar → WorstSoFar → WorstSoFar
 overall None b = b
-overall (Some a) None = Some a
-overall (Some a) (Some b) = Some (cond (isLess (a .gap) (b .gap)) b a)
+overall (Worst a) None = Worst a
+overall (Worst a) (Worst b) = Worst (worse a b)

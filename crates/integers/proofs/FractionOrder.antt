@@ -3,8 +3,10 @@
 --     isLess-true, isLess-false             what the test says
 --     less-isLess, notGreater-isLess        and back
 --     less-notGreater                       the order is total
+--     notGreater-zero                       only 0 is not greater than 0
 use Prim.Native.Nat.{_<_}
-use native.Mathlib.Nat.{le-of-lt, le-of-mul-le-mul-right, le-refl, lt-of-not-le, mul-le-mul-right, not-le-of-lt}
+use mathlib.Core.Logic.{_↔_, inl, inr}
+use native.Mathlib.Nat.{zero-mul, mul-pos, eq-zero-or-pos, le-of-lt, le-of-mul-le-mul-right, le-refl, lt-of-not-le, mul-le-mul-right, not-le-of-lt}
 use native.Mathlib.Omega.{arith}
 use borrow.Author.Tests.{lt-ltb, le-ltb, ltb-true, ltb-false}
 use mathlib.Core.Path.{_≡_}
@@ -40,3 +42,13 @@ notGreater-isLess g h most = le-ltb _ _ most
 -- of two fractions one is not greater
 pub less-notGreater : (g h : Fraction) → ¬ NotGreater h g → NotGreater g h
 less-notGreater g h less = le-of-lt (lt-of-not-le less)
+
+-- only 0 is not greater than 0
+pub notGreater-zero : (f g : Fraction) → 0 < g .lower → g .upper ≡ 0 → NotGreater f g ↔ (f .upper ≡ 0)
+notGreater-zero f g some none = (
+  λ not-greater. elim (eq-zero-or-pos (f .upper)) [
+    | inl is ↦ is
+    | inr above ↦ absurd (omega (arith, mul-pos above some, rw (none, zero-mul) at not-greater))
+  ],
+  λ is. rw (is, zero-mul) (omega arith),
+)

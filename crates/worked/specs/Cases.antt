@@ -27,7 +27,7 @@ use Rattle.hausdorff.specs.declared.Side.{Side}
 use Rattle.hausdorff.specs.declared.Side.the-variants.{A, B}
 use Rattle.hausdorff.specs.declared.CornerGap.{CornerGap}
 use Rattle.hausdorff.specs.declared.WorstSoFar.{WorstSoFar}
-use Rattle.hausdorff.specs.declared.WorstSoFar.the-variants.{None, Worst as Some}
+use Rattle.hausdorff.specs.declared.WorstSoFar.the-variants.{None, Worst}
 use Rattle.hausdorff.specs.declared.Report.{Report}
 use Rattle.hausdorff.specs.declared.Report.the-variants.{Spent, Done}
 use Rattle.hausdorff.specs.Pair.{Pair, both}
@@ -193,8 +193,8 @@ cases =
     ∷ compares S T 512 (done 7 (corner A 2 (OnEdge 1) 256 (pos 64) (pos 64) 32) 2)
     ∷ compares S T 0 (spent 0 0 0 None)
     ∷ compares S T 3 (spent 3 2 1 None)
-    ∷ compares S T 4 (spent 4 2 2 (Some (corner A 2 (OnEdge 1) 256 (pos 64) (pos 64) 32)))
-    ∷ compares S T 6 (spent 6 0 2 (Some (corner A 2 (OnEdge 1) 256 (pos 64) (pos 64) 32)))
+    ∷ compares S T 4 (spent 4 2 2 (Worst (corner A 2 (OnEdge 1) 256 (pos 64) (pos 64) 32)))
+    ∷ compares S T 6 (spent 6 0 2 (Worst (corner A 2 (OnEdge 1) 256 (pos 64) (pos 64) 32)))
     ∷ compares T S 7 (done 7 (corner B 2 (OnEdge 1) 256 (pos 64) (pos 64) 32) 2)
     ∷ compares S moved 8 (done 8 (corner A 0 (AtCorner 0) 100 (pos 10) (pos 0) 1) 10)
     ∷ compares S S 8 (done 8 (corner A 0 Within 0 (pos 0) (pos 0) 1) 0)
@@ -202,10 +202,10 @@ cases =
     ∷ compares turned S 8 (done 8 (corner A 0 Within 0 (pos 4) (pos 4) 1) 0)
     ∷ compares low high 6 (done 6 (corner A 0 (OnEdge 1) 4095872001 (pos 31999) (pos 31999) 2) 45254)
     -- of equal gaps corner 2 takes the place of corner 3, which was found before
-    ∷ compares square squareMoved 5 (spent 5 2 1 (Some (corner A 3 (AtCorner 3) 100 (pos 9) (negsuc 0) 1)))
-    ∷ compares square squareMoved 6 (spent 6 2 2 (Some (corner A 2 (AtCorner 2) 100 (pos 9) (pos 1) 1)))
+    ∷ compares square squareMoved 5 (spent 5 2 1 (Worst (corner A 3 (AtCorner 3) 100 (pos 9) (negsuc 0) 1)))
+    ∷ compares square squareMoved 6 (spent 6 2 2 (Worst (corner A 2 (AtCorner 2) 100 (pos 9) (pos 1) 1)))
     -- the nearest point is a neighbour of the corner in touch
-    ∷ compares thin wide 2 (spent 2 0 0 (Some (corner A 0 (AtCorner 0) 4 (pos 0) (pos 0) 1)))
+    ∷ compares thin wide 2 (spent 2 0 0 (Worst (corner A 0 (AtCorner 0) 4 (pos 0) (pos 0) 1)))
     ∷ exhausts S T (corner A 2 (OnEdge 1) 256 (pos 64) (pos 64) 32)
     ∷ exhausts low high (corner A 0 (OnEdge 1) 4095872001 (pos 31999) (pos 31999) 2)
     ∷ exhausts square squareMoved (corner A 2 (AtCorner 2) 100 (pos 9) (pos 1) 1)
