@@ -2,6 +2,7 @@
 --     IsClearance    the clearance figure of a gap: the largest whole number whose square is not above it
 --     clearance      that number
 --     firstWithin    A's corner 0, within
+--     orFirstWithin  a worst so far, or that
 --     answer         the worst so far after step N, or A's corner 0, within, if that is none
 --     spent, done    the two reports
 --     report         spent if the allowance is below N, otherwise done
@@ -34,7 +35,6 @@ clearance g = root (g .upper / g .lower)
 abbrev pub firstWithin : Pair → CornerGap
 firstWithin pair = named A 0 (withinValues (corner (pair A) 0))
 
--- a worst so far, or that
 abbrev pub orFirstWithin : Pair → WorstSoFar → CornerGap
 orFirstWithin pair None = firstWithin pair
 orFirstWithin pair (Worst w) = w
@@ -42,7 +42,7 @@ orFirstWithin pair (Worst w) = w
 abbrev pub answer : Pair → CornerGap
 answer pair = orFirstWithin pair (worstSoFar pair (stepCount pair))
 
--- the steps made (equal to the allowance), both corners in touch, and the worst so far or none
+-- the steps made (equal to the allowance), both support corners, and the worst so far or none
 abbrev pub spent : Pair → ℕ → Spent
 spent pair allowance = record {
   steps = allowance;

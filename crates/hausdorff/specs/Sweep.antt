@@ -1,9 +1,9 @@
 -- Document 01: the sweep.
---     Sweep         what it knows: the corner in touch of each side, here support corner, and the worst so far of each side
+--     Sweep         what it knows: the support corner of each side, which is document 01's corner in touch, and the worst so far of each side
 --     begin         before step 1
---     measured      what measuring finds of a side: its corner in touch if it counts, or none
+--     measured      what measuring finds of a side: its support corner if it counts, or none
 --     measure       measuring, both ways
---     passed, pass  the corners in touch after an edge was passed; passing it
+--     passed, pass  the support corners after an edge was passed; passing it
 --     step, steps   step k first measures and then passes the k-th edge
 --     after         the sweep after k steps
 --     worstSoFar    the worst of both sides
@@ -26,7 +26,7 @@ pub record Sweep : Type 0 where
   pub support : Side → ℕ
   pub worst : Side → WorstSoFar
 
--- the corner in touch of each outline is the start of its own first edge in the order: edge i starts at corner i. Each outline has an edge;
+-- the support corner of each outline is the start of its own first edge in the order: edge i starts at corner i. Each outline has an edge;
 -- 0 stands for none
 unfoldable pub begin : Pair → Sweep
 begin pair = record { support = λ s. headOr 0 (own s (angularOrder pair)); worst = λ s. None }
@@ -35,18 +35,19 @@ unfoldable pub measured : Pair → (Side → ℕ) → Side → WorstSoFar
 measured pair support s =
     cond (isCounted (pair (other s)) (support (other s)) (corner (pair s) (support s))) (Worst (cornerGap pair s (support s))) None
 
--- passing an edge moves that outline's corner in touch to the end of the edge
-abbrev pub passed : Pair → PairEdge → (Side → ℕ) → Side → ℕ
-passed pair e support s = cond (sameSide s (e .side)) (next (length (pair s)) (e .number)) (support s)
-
-abbrev pub pass : Pair → PairEdge → Sweep → Sweep
-pass pair e sweep = record { support = passed pair e (sweep .support); worst = sweep .worst }
-
+-- both ways
 abbrev pub measure : Pair → Sweep → Sweep
 measure pair sweep = record {
   support = sweep .support;
   worst = λ s. keep (shownNumber pair s) (sweep .worst s) (measured pair (sweep .support) s);
 }
+
+-- passing an edge moves that outline's support corner to the end of the edge
+abbrev pub passed : Pair → PairEdge → (Side → ℕ) → Side → ℕ
+passed pair e support s = cond (sameSide s (e .side)) (next (length (pair s)) (e .number)) (support s)
+
+abbrev pub pass : Pair → PairEdge → Sweep → Sweep
+pass pair e sweep = record { support = passed pair e (sweep .support); worst = sweep .worst }
 
 unfoldable pub step : Pair → PairEdge → Sweep → Sweep
 step pair e sweep = pass pair e (measure pair sweep)

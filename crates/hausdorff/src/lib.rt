@@ -25,13 +25,13 @@ pub enum WorstSoFar {
     Worst(CornerGap),
 }
 
-// Document 01: the corners in touch, one of each outline.
+// The support corners, one of each outline: document 01's corners in touch.
 pub struct SupportCorners {
     pub a: usize,
     pub b: usize,
 }
 
-// Document 01: the allowance was below the number of steps. The steps made, the corners in touch and the worst so far.
+// Document 01: the allowance was below the number of steps. The steps made, the support corners and the worst so far.
 pub struct Spent {
     pub steps: u32,
     pub support: SupportCorners,

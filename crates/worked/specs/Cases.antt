@@ -204,7 +204,7 @@ cases =
     -- of equal gaps corner 2 takes the place of corner 3, which was found before
     ∷ compares square squareMoved 5 (spent 5 2 1 (Worst (corner A 3 (AtCorner 3) 100 (pos 9) (negsuc 0) 1)))
     ∷ compares square squareMoved 6 (spent 6 2 2 (Worst (corner A 2 (AtCorner 2) 100 (pos 9) (pos 1) 1)))
-    -- the nearest point is a neighbour of the corner in touch
+    -- the nearest point is a neighbour of the support corner
     ∷ compares thin wide 2 (spent 2 0 0 (Worst (corner A 0 (AtCorner 0) 4 (pos 0) (pos 0) 1)))
     ∷ exhausts S T (corner A 2 (OnEdge 1) 256 (pos 64) (pos 64) 32)
     ∷ exhausts low high (corner A 0 (OnEdge 1) 4095872001 (pos 31999) (pos 31999) 2)
