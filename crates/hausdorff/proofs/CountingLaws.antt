@@ -1,15 +1,18 @@
--- When a corner counts, told from its nearest feature.
---     counted-iff    it counts exactly where its nearest feature is the other support corner, a neighbour of that, or an edge at it
--- A point that lies on an edge is one of its ends or strictly between them, and a point is one feature only.
+-- When a corner counts, told from its nearest point and from its nearest feature.
+--     LiesOn           a point lies on edge i, its ends included
+--     LiesAt           a point is corner b or lies on one of the two edges that meet there, ends included
+--     counted-means    v counts exactly where it is outside the piece and its nearest point lies at corner b
+--     counted-iff      and so exactly where its nearest feature is corner b, a neighbour of it, or an edge at it
+-- The second follows since a point that lies on an edge is one of its ends or strictly between them, and a point is one feature only.
 use Prim.Native.Nat.{ℕ, _<_}
 use mathlib.Core.Path.{_≡_, refl, sym, subst}
 use mathlib.Core.Logic.{_↔_, _⊎_, inl, inr, Iff·trans}
-use mathlib.Core.Bool.{true, _&&_}
+use mathlib.Core.Bool.{true}
 use mathlib.Core.List.{List, [], _∷_, _++_}
 use native.Mathlib.Omega.{arith}
 use lib.IntN.{pos, negsuc}
 use lib.ListN.{length}
-use lib.Signed.{_≤ℤ_, _<ℤ_, ≤ℤ-refl}
+use lib.Signed.{_≤ℤ_, ≤ℤ-refl}
 use Rattle.integers.proofs.Polynomial.{lit}
 use Rattle.integers.proofs.Certificate.{_≺_, _≼_, _≗_, hyp, eqn, _⊞_, _⊠_, prove}
 use Rattle.integers.proofs.Order.{≤ℤ-or-<ℤ, <ℤ-≤ℤ}
@@ -20,6 +23,7 @@ use Rattle.plane.specs.declared.Vector.{Vector}
 use Rattle.plane.specs.Point.{whole, _⇢_, Same}
 use Rattle.plane.specs.Vector.{_⇀_, cross, dot, coordinates}
 use Rattle.plane.proofs.Algebra.{O, vec, crossE, dotE, _⇀E_, components, side-start, side-stop, dot-self, dot-swap}
+use Rattle.plane.proofs.Halves.{NonZero}
 use Rattle.plane.proofs.Points.{pt, wholeE, _⇢E_, numbers, whole-⇢, dot-self-0, same-refl, same-sym, not-apart}
 use Rattle.outline.specs.Convex.{Polygon}
 use Rattle.outline.specs.Corners.{corner, next, previous}
@@ -28,8 +32,8 @@ use Rattle.nearest.specs.declared.Feature.{Feature}
 use Rattle.nearest.specs.declared.Feature.the-variants.{Within, Corner as AtCorner, Edge as OnEdge}
 use Rattle.nearest.specs.declared.NearestPoint.{NearestPoint}
 use Rattle.nearest.specs.Feature.{values}
-use Rattle.nearest.specs.Piece.{edge, sideOf, Outside, isOutside}
-use Rattle.nearest.specs.Local.{Tested, feature}
+use Rattle.nearest.specs.Piece.{edge, sideOf, Outside}
+use Rattle.nearest.specs.Local.{Tested, feature, nearest}
 use Rattle.nearest.specs.Nearest.{Fits, Between, Answers}
 use Rattle.nearest.proofs.AnswerLaws.{feature-tested, tested-answers}
 use Rattle.nearest.proofs.FitsLaws.{fits-unique}
@@ -41,35 +45,40 @@ use Rattle.hausdorff.proofs.Extreme.{AtSupport}
 -- ---- what the tests say
 
 -- on the edge's line, not before its start and not after its end
-record LiesOn (cs : List Corner) (i : ℕ) (y : Point) : Type 0 where
-  on-line : sideOf cs i y ≡ pos 0
-  from-start : pos 0 ≤ℤ dot (edge cs i) (whole (corner cs i) ⇢ y)
-  to-end : pos 0 ≤ℤ dot (edge cs i) (y ⇢ whole (corner cs (next (length cs) i)))
+pub record LiesOn (cs : List Corner) (i : ℕ) (y : Point) : Type 0 where
+  pub on-line : sideOf cs i y ≡ pos 0
+  pub from-start : pos 0 ≤ℤ dot (edge cs i) (whole (corner cs i) ⇢ y)
+  pub to-end : pos 0 ≤ℤ dot (edge cs i) (y ⇢ whole (corner cs (next (length cs) i)))
 
--- the point is corner b or lies on one of the two edges that meet there
-abbrev Meets : List Corner → ℕ → Point → Type 0
-Meets cs b y = (Same y (whole (corner cs b)) ⊎ LiesOn cs (previous (length cs) b) y) ⊎ LiesOn cs b y
+abbrev pub LiesAt : List Corner → ℕ → Point → Type 0
+LiesAt cs b y = (Same y (whole (corner cs b)) ⊎ LiesOn cs (previous (length cs) b) y) ⊎ LiesOn cs b y
 
-point-test : (y z : Point) → (isSame y z ≡ true) ↔ Same y z
-point-test y z = Iff·trans (test-and _ _ (test-eqZ _ _) (test-eqZ _ _)) (
+same-test : (y z : Point) → (isSame y z ≡ true) ↔ Same y z
+same-test y z = Iff·trans (test-and _ _ (test-eqZ _ _) (test-eqZ _ _)) (
   λ (x, y). record { same-x = x; same-y = y },
   λ same. (same .same-x, same .same-y),
 )
 
-lies-test : (cs : List Corner) (i : ℕ) (y : Point) → (liesOn cs i y ≡ true) ↔ LiesOn cs i y
-lies-test cs i y = Iff·trans (test-and _ _ (test-and _ _ (test-eqZ _ _) (test-leZ _ _)) (test-leZ _ _)) (
+lies-on-test : (cs : List Corner) (i : ℕ) (y : Point) → (liesOn cs i y ≡ true) ↔ LiesOn cs i y
+lies-on-test cs i y = Iff·trans (test-and _ _ (test-and _ _ (test-eqZ _ _) (test-leZ _ _)) (test-leZ _ _)) (
   λ ((line, start), end). record { on-line = line; from-start = start; to-end = end },
   λ lies. ((lies .on-line, lies .from-start), lies .to-end),
 )
 
-meets-test : (cs : List Corner) (b : ℕ) (y : Point) → (liesAt cs b y ≡ true) ↔ Meets cs b y
+lies-at-test : (cs : List Corner) (b : ℕ) (y : Point) → (liesAt cs b y ≡ true) ↔ LiesAt cs b y
 unfolding liesAt
-meets-test cs b y = test-or _ _ (test-or _ _ (point-test y (whole (corner cs b))) (lies-test cs _ y)) (lies-test cs b y)
+lies-at-test cs b y = test-or _ _ (test-or _ _ (same-test y (whole (corner cs b))) (lies-on-test cs _ y)) (lies-on-test cs b y)
+
+-- document 01's words, as propositions
+pub counted-means : (cs : List Corner) (b : ℕ) (v : Corner)
+    → (isCounted cs b v ≡ true) ↔ (Outside cs (whole v) × LiesAt cs b (nearest cs v .point))
+unfolding isCounted
+counted-means cs b v = test-and _ _ (outside-test cs v) (lies-at-test cs b (nearest cs v .point))
 
 -- ---- the ends of an edge
 
 -- points whose difference d is both parallel and square to e are the same, since |e|² |d|² = cross² + dot²
-no-part : (e : Vector) (y z : Point) → pos 0 <ℤ dot e e → cross e (y ⇢ z) ≡ pos 0
+no-part : (e : Vector) (y z : Point) → NonZero e → cross e (y ⇢ z) ≡ pos 0
     → pos 0 ≤ℤ dot e (y ⇢ z) → dot e (y ⇢ z) ≤ℤ pos 0 → Same y z
 unfolding cross dot
 no-part e y z long line up down =
@@ -141,42 +150,36 @@ module _ {cs : List Corner} (polygon : Polygon cs) where
     abbrev n : ℕ
     n = length cs
 
-    -- a nearest point that meets corner b is of a feature that touches it
-    meets-touches : {v : Corner} {a : NearestPoint} → Answers cs v a → Outside cs (whole v)
-        → Meets cs b (a .point) → AtSupport n b (a .feature)
-    meets-touches is outside (inl (inl same)) = fitting is outside (AtSupport n b) (AtCorner b) (outside, below, same) (inl refl)
-    meets-touches is outside (inl (inr lies)) =
+    -- the feature of a nearest point that lies at corner b is at that support corner
+    lies-at-support : {v : Corner} {a : NearestPoint} → Answers cs v a → Outside cs (whole v) × LiesAt cs b (a .point)
+        → AtSupport n b (a .feature)
+    lies-at-support is (outside, inl (inl same)) = fitting is outside (AtSupport n b) (AtCorner b) (outside, below, same) (inl refl)
+    lies-at-support is (outside, inl (inr lies)) =
         let into = next-previous n b below in
         lying is outside (AtSupport n b) (previous n b) (previous-below n b below) lies (inr (inr into)) (inl into) (inr into)
-    meets-touches is outside (inr lies) = lying is outside (AtSupport n b) b below lies (inl refl) (inr (inl refl)) (inl refl)
+    lies-at-support is (outside, inr lies) = lying is outside (AtSupport n b) b below lies (inl refl) (inr (inl refl)) (inl refl)
 
-    -- and back: a point of an edge at corner b meets it
-    edge-meets : (i : ℕ) {y : Point} → i < n → LiesOn cs i y → AtSupport n b (OnEdge i) → Meets cs b y
-    edge-meets i known lies (inl e) = inr (rw (← e) lies)
-    edge-meets i known lies (inr e) = inl (inr (rw (← e, previous-next n i known) lies))
+    -- and back: a point of an edge at corner b lies at it
+    edge-lies-at : (i : ℕ) {y : Point} → i < n → LiesOn cs i y → AtSupport n b (OnEdge i) → LiesAt cs b y
+    edge-lies-at i known lies (inl e) = inr (rw (← e) lies)
+    edge-lies-at i known lies (inr e) = inl (inr (rw (← e, previous-next n i known) lies))
 
-    -- and so does the corner itself and each neighbour, which ends such an edge
-    corner-meets : (i : ℕ) → i < n → AtSupport n b (AtCorner i) → Meets cs b (whole (corner cs i))
-    corner-meets i known (inl e) = edge-meets i known (start-lies cs i) (inl e)
-    corner-meets i known (inr (inl e)) = inr (rw e (end-lies cs b))
-    corner-meets i known (inr (inr e)) = edge-meets i known (start-lies cs i) (inr e)
+    -- and so do the corner itself and its neighbours, which are ends of such edges
+    corner-lies-at : (i : ℕ) → i < n → AtSupport n b (AtCorner i) → LiesAt cs b (whole (corner cs i))
+    corner-lies-at i known (inl e) = edge-lies-at i known (start-lies cs i) (inl e)
+    corner-lies-at i known (inr (inl e)) = inr (rw e (end-lies cs b))
+    corner-lies-at i known (inr (inr e)) = edge-lies-at i known (start-lies cs i) (inr e)
 
-    module _ (v : Corner) where
-      -- both ways, by the meaning of the tests
-      answer-counted : {a : NearestPoint} → Answers cs v a → (AtSupport n b (a .feature) → Outside cs (whole v) × Meets cs b (a .point))
-          → (isOutside cs v && liesAt cs b (a .point) ≡ true) ↔ AtSupport n b (a .feature)
-      answer-counted {a} is back = Iff·trans (test-and _ _ (outside-test cs v) (meets-test cs b (a .point)))
-          (λ (outside, meets). meets-touches is outside meets, back)
-
-      tested-counted : (f : Feature) → Tested cs v f → (isOutside cs v && liesAt cs b (values cs v f .point) ≡ true) ↔ AtSupport n b f
-      tested-counted Within holds = answer-counted (tested-answers polygon v Within holds) (λ none. absurd none)
-      tested-counted (AtCorner i) holds =
-          let is = tested-answers polygon v (AtCorner i) holds in let (outside, known, here) = is .fits in
-          answer-counted is (λ touches. (outside, corner-meets i known touches))
-      tested-counted (OnEdge i) holds =
-          let is = tested-answers polygon v (OnEdge i) holds in let (outside, known, between) = is .fits in
-          answer-counted is (λ touches. (outside, edge-meets i known (between-lies between) touches))
+    -- both ways, for a feature whose test holds
+    tested-at-support : (v : Corner) (f : Feature) → Tested cs v f
+        → (Outside cs (whole v) × LiesAt cs b (values cs v f .point)) ↔ AtSupport n b f
+    tested-at-support v Within holds = (lies-at-support (tested-answers polygon v Within holds), λ none. absurd none)
+    tested-at-support v (AtCorner i) holds =
+        let is = tested-answers polygon v (AtCorner i) holds in let (outside, known, here) = is .fits in
+        (lies-at-support is, λ at-support. (outside, corner-lies-at i known at-support))
+    tested-at-support v (OnEdge i) holds =
+        let is = tested-answers polygon v (OnEdge i) holds in let (outside, known, between) = is .fits in
+        (lies-at-support is, λ at-support. (outside, edge-lies-at i known (between-lies between) at-support))
 
   pub counted-iff : (b : ℕ) → b < length cs → (v : Corner) → (isCounted cs b v ≡ true) ↔ AtSupport (length cs) b (feature cs v)
-  unfolding isCounted
-  counted-iff b below v = tested-counted b below v (feature cs v) (feature-tested cs v)
+  counted-iff b below v = Iff·trans (counted-means cs b v) (tested-at-support b below v (feature cs v) (feature-tested cs v))

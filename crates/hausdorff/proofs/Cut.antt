@@ -1,18 +1,17 @@
 -- A direction t cuts the order of directions: some are passed and the others lie ahead. One outline's support corner at a cut.
 --     Cut                  which directions are passed; with a direction those that it does not come before
 --     strict, weak         the directions before t; those that do not come after t
---     Divided, divide      a list is divided by a cut where directions do not fall
---     headOr-head          the head of a list is the head also where another number stands for none
---     CutAt, supportAt     an outline's edges in angular order, the passed ones and those ahead; the support corner between them
---     strict-support, weak-support    where t lies from the edge into corner i to the edge out of it, the support corner is i: at the
---                          strict cut if the edge into i has not t's direction, at the weak cut if the edge out of i has not
+--     Divided, divide      a list in two parts, the passed and those ahead; so it is where directions do not fall
+--     CutAt, supportAt     an outline's edges in angular order, the passed and those ahead; the support corner between them
+--     strict-support       where t lies from the edge into corner i to the edge out of it, the support corner at the strict cut is i
+--                          unless the edge into i has t's direction
 --     weak-end             at the weak cut the support corner is the end of an edge that has t's direction
---     strict-touches, weak-touches    a feature that is extreme in u meets the support corner at both cuts by u turned left
+--     strict-at-support, weak-at-support    a feature that is extreme in u is at the support corner of both cuts by u turned left
 use Prim.Native.Nat.{ℕ, _<_}
 use mathlib.Core.Path.{_≡_, refl, sym, ap, _∙_}
-use mathlib.Core.Logic.{_⊎_, inl, inr, ⊎-elim, ⊎-swap, _↔_, Dec·not}
+use mathlib.Core.Logic.{_⊎_, inl, inr, ⊎-elim, ⊎-map, _↔_, Dec·not}
 use mathlib.Core.List.{List, [], _∷_, _++_, List·Memᴰ, List·Memᴰ·head, List·Memᴰ·tail, List·Memᴰ·cases-cons, List·Memᴰ·not-nil}
-use mathlib.Core.List.{List·Memᴰ·eq-of-singleton, List·Memᴰ·append-cases, Memᴰ·append-left, Memᴰ·append-right}
+use mathlib.Core.List.{List·Memᴰ·append-cases, Memᴰ·append-left, Memᴰ·append-right}
 use mathlib.Core.List.{Pairwise, Pairwise·of-cons, rel-of-pairwise-cons}
 use native.Mathlib.Omega.{arith}
 use lib.ListN.{length}
@@ -27,7 +26,7 @@ use Rattle.hausdorff.specs.AngularOrder.{headOr}
 use Rattle.plane.proofs.Halves.{NonZero}
 use Rattle.plane.proofs.DirectionLaws.{Before, Along, Apart, before?, along?, before-split, along-apart, Around, around-start, around-end}
 use Rattle.hausdorff.proofs.GoesRound.{GoesRound}
-use Rattle.hausdorff.proofs.OrderLaws.{Cyclic}
+use Rattle.hausdorff.proofs.Cyclic.{Rising, Cyclic, headOr-all, headOr-none, rising-head, followed}
 use Rattle.hausdorff.proofs.Extreme.{ExtremeFeature, AtSupport}
 use Rattle.hausdorff.proofs.ExtremeLaws.{turned, turned-some, corner-around, edge-along}
 
@@ -50,7 +49,6 @@ weak t = record {
   closed = λ d e some _ first after h. ⊎-elim first after (before-split t d e some h);
 }
 
--- A list, divided at a cut of its members' directions.
 pub record Divided {X : Type 0} (cut : Cut) (way : X → Vector) (xs : List X) : Type 0 where
   pub front : List X
   pub rest : List X
@@ -68,7 +66,7 @@ module _ {X : Type 0} (cut : Cut) (way : X → Vector) where
     ahead = ahead;
   }
 
-  -- Where directions do not fall, a list is divided at its first member that is not passed.
+  -- It is divided at its first member that is not passed.
   pub divide : (xs : List X) → ((x : X) → List·Memᴰ x xs → NonZero (way x)) → Pairwise (λ x y. ¬ Before (way y) (way x)) xs
       → Divided cut way xs
   divide [] some rising = all-ahead [] (λ x there. absurd (List·Memᴰ·not-nil there))
@@ -80,47 +78,17 @@ module _ {X : Type 0} (cut : Cut) (way : X → Vector) where
         front = x ∷ divided .front;
         rest = divided .rest;
         parts = ap (λ (ys : List X). x ∷ ys) (divided .parts);
-        behind = λ y there. ⊎-elim (λ is. rw is passed) (divided .behind y) (List·Memᴰ·cases-cons there);
+        behind = λ y there. ⊎-elim (λ same. rw same passed) (divided .behind y) (List·Memᴰ·cases-cons there);
         ahead = divided .ahead;
       }
-      go (no not) divided = all-ahead (x ∷ xs) (λ y there passed. not (⊎-elim (λ is. rw is at passed)
+      go (no not) divided = all-ahead (x ∷ xs) (λ y there passed. not (⊎-elim (λ same. rw same at passed)
           (λ later. cut .closed (way y) (way x) (some y there) (some x (List·Memᴰ·head refl)) passed
           (rel-of-pairwise-cons rising ∣ later ∣₁))
           (List·Memᴰ·cases-cons there)))
 
--- The head of a list is the head also where another number stands for none.
-pub headOr-head : (is : List ℕ) → headOr 0 is ≡ headOr (headOr 0 is) is
-headOr-head [] = refl
-headOr-head (i ∷ is) = refl
-
--- Where the front has no members, the head of the rest is the head of the whole; where the rest has none, another number stands for it.
-headOr-all : (front rest : List ℕ) → ((i : ℕ) → ¬ List·Memᴰ i front) → headOr (headOr 0 (front ++ rest)) rest ≡ headOr 0 (front ++ rest)
-headOr-all [] rest none = sym (headOr-head rest)
-headOr-all (i ∷ front) rest none = absurd (none i (List·Memᴰ·head refl))
-
-headOr-none : (z : ℕ) (rest : List ℕ) → ((i : ℕ) → ¬ List·Memᴰ i rest) → headOr z rest ≡ z
-headOr-none z [] none = refl
-headOr-none z (i ∷ rest) none = absurd (none i (List·Memᴰ·head refl))
-
--- In a list that goes round, a member of the front whose follower is not in the front is the last of it, and so the rest begins there.
-followed : (n z : ℕ) (front rest : List ℕ) (j : ℕ) → Cyclic n z (front ++ rest) → List·Memᴰ j front → ¬ List·Memᴰ (next n j) front
-    → headOr z rest ≡ next n j
-followed n z [] rest j round there last = absurd (List·Memᴰ·not-nil there)
-followed n z (k ∷ []) rest j (follows, _) there last = sym (ap (next n) (List·Memᴰ·eq-of-singleton there) ∙ follows)
-followed n z (k ∷ (l ∷ front)) rest j (follows, round) there last =
-    ⊎-elim (λ is. absurd (last (List·Memᴰ·tail (List·Memᴰ·head (ap (next n) is ∙ follows)))))
-    (λ later. followed n z (l ∷ front) rest j round later (λ next-there. last (List·Memᴰ·tail next-there))) (List·Memᴰ·cases-cons there)
-
--- A rising list begins with the member that none comes before.
-rising-head : (d : ℕ → Vector) (is : List ℕ) (i : ℕ) → Pairwise (λ i j. Before (d i) (d j)) is → List·Memᴰ i is
-    → ((j : ℕ) → List·Memᴰ j is → ¬ Before (d j) (d i)) → headOr 0 is ≡ i
-rising-head d [] i rising there first = absurd (List·Memᴰ·not-nil there)
-rising-head d (k ∷ is) i rising there first =
-    ⊎-elim sym (λ later. absurd (first k (List·Memᴰ·head refl) (rel-of-pairwise-cons rising ∣ later ∣₁))) (List·Memᴰ·cases-cons there)
-
 pub record CutAt (n : ℕ) (d : ℕ → Vector) (cut : Cut) (front rest : List ℕ) : Type 0 where
   pub members : (i : ℕ) → List·Memᴰ i (front ++ rest) ↔ (i < n)
-  pub rising : Pairwise (λ i j. Before (d i) (d j)) (front ++ rest)
+  pub rising : Rising d (front ++ rest)
   pub cyclic : Cyclic n (headOr 0 (front ++ rest)) (front ++ rest)
   pub behind : (i : ℕ) → List·Memᴰ i front → cut .Passed (d i)
   pub ahead : (i : ℕ) → List·Memᴰ i rest → ¬ cut .Passed (d i)
@@ -137,7 +105,8 @@ module _ {n : ℕ} {d : ℕ → Vector} (round : GoesRound n d) (i : ℕ) (below
 
   -- The edge into a corner has another direction than the edge out of it.
   into-apart : Apart (d (previous n i)) (d i)
-  into-apart = round .distinct (previous n i) i into-below below (λ is. next-other n (previous n i) (round .at-least) (into-next ∙ sym is))
+  into-apart =
+      round .distinct (previous n i) i into-below below (λ same. next-other n (previous n i) (round .at-least) (into-next ∙ sym same))
 
   module _ {cut : Cut} {front rest : List ℕ} (here : CutAt n d cut front rest) where
     -- An edge that is passed is in the front.
@@ -167,39 +136,32 @@ module _ {n : ℕ} {d : ℕ → Vector} (round : GoesRound n d) (i : ℕ) (below
           ⊎-elim (λ passed. headOr-none _ rest (all-behind passed)) (λ not. headOr-all front rest (none-behind not)) which
           ∙ rising-head d (front ++ rest) i (here .rising) (here .members i .1 below) (λ j there. first j (here .members j .0 there))
 
-    -- The support corner is i where the edge into it is passed and the edge out of it is not; where directions fall, one is enough.
-    support-turn : (Before (d (previous n i)) (d i) → cut .Passed (d (previous n i)) × (¬ cut .Passed (d i)))
-        → (Before (d i) (d (previous n i)) → cut .Passed (d (previous n i)) ⊎ (¬ cut .Passed (d i))) → supportAt front rest ≡ i
-    support-turn rises falls = ⊎-elim
-        (λ rising. let (passed, ahead) = rises rising in
-        followed n _ front rest (previous n i) (here .cyclic) (in-front (previous n i) into-below passed)
-        (λ there. ahead (here .behind i (rw into-next at there))) ∙ into-next)
-        (λ wraps. support-wrap wraps (falls wraps)) into-apart
+    -- Where t lies from the edge into corner i to the edge out of it, the support corner is i at a cut that passes the first if t does not
+    -- come before it, and leaves the second ahead if it does not come before t.
+    around-support : {t : Vector} → Around (d (previous n i)) (d i) t → (¬ Before t (d (previous n i)) → cut .Passed (d (previous n i)))
+        → (¬ Before (d i) t → ¬ cut .Passed (d i)) → supportAt front rest ≡ i
+    around-support around behind ahead = ⊎-elim
+        (λ rises. let (not-after, not-before) = around .rising rises in
+        followed n _ front rest (previous n i) (here .cyclic) (in-front (previous n i) into-below (behind not-after))
+        (λ there. ahead not-before (here .behind i (rw into-next at there))) ∙ into-next)
+        (λ wraps. support-wrap wraps (⊎-map behind ahead (around .inside))) into-apart
 
   module _ (t : Vector) (around : Around (d (previous n i)) (d i) t) {front rest : List ℕ} where
     pub strict-support : CutAt n d (strict t) front rest → Apart (d (previous n i)) t → supportAt front rest ≡ i
-    strict-support here apart = support-turn here
-        (λ rising. let (not-after, not-before) = around .rising rising in (certain not-after, not-before))
-        (λ wraps. ⊎-elim (λ not-after. inl (certain not-after)) inr (around .inside))
-      where
-        certain : ¬ Before t (d (previous n i)) → Before (d (previous n i)) t
-        certain not-after = ⊎-elim (λ h. h) (λ h. absurd (not-after h)) apart
+    strict-support here apart =
+        around-support here around (λ not-after. ⊎-elim (λ h. h) (λ h. absurd (not-after h)) apart) (λ not-before. not-before)
 
-    pub weak-support : CutAt n d (weak t) front rest → Apart (d i) t → supportAt front rest ≡ i
-    weak-support here apart = support-turn here
-        (λ rising. let (not-after, not-before) = around .rising rising in (not-after, certain not-before))
-        (λ wraps. ⊎-elim inl (λ not-before. inr (certain not-before)) (around .inside))
-      where
-        certain : ¬ Before (d i) t → ¬ ¬ Before t (d i)
-        certain not-before not-after = ⊎-elim not-before not-after apart
+    -- At the weak cut it is i unless the edge out of i has t's direction.
+    weak-support : CutAt n d (weak t) front rest → Apart (d i) t → supportAt front rest ≡ i
+    weak-support here apart =
+        around-support here around (λ not-after. not-after) (λ not-before not-after. ⊎-elim not-before not-after apart)
 
   -- An edge that has t's direction starts at the support corner of the strict cut, and ends at that of the weak cut.
   module _ (t : Vector) (some : NonZero t) {front rest : List ℕ} where
     strict-start : CutAt n d (strict t) front rest → Along (d i) t → supportAt front rest ≡ i
-    unfolding ⊎-swap
     strict-start here along =
         let e = d (previous n i) in
-        strict-support t (around-end e (d i) t along) here (along-apart (d i) e t some along (⊎-swap into-apart))
+        strict-support t (around-end e (d i) t along) here (along-apart (d i) e t some along (⊎-elim inr inl into-apart))
 
     pub weak-end : CutAt n d (weak t) front rest → Along (d (previous n i)) t → supportAt front rest ≡ i
     weak-end here along =
@@ -216,14 +178,14 @@ module _ (cs : List Corner) (round : GoesRound (length cs) (edge cs)) (u : Vecto
         let start = strict-start round (previous n i) (previous-below n i below) (turned u) (turned-some u some) here along in
         rw (start, next-previous n i below)
 
-    pub strict-touches : (f : Feature) → ExtremeFeature cs u f → AtSupport (length cs) (supportAt front rest) f
-    strict-touches Within none = absurd none
-    strict-touches (AtCorner i) extreme = ⊎-elim
+    pub strict-at-support : (f : Feature) → ExtremeFeature cs u f → AtSupport (length cs) (supportAt front rest) f
+    strict-at-support Within none = absurd none
+    strict-at-support (AtCorner i) extreme = ⊎-elim
         (λ along. inr (inl (start-before i (extreme .known) along)))
-        (λ apart. inl (sym (strict-support round i (extreme .known) (turned u) (corner-around round u some i extreme) here apart)))
+        (λ apart. inl (sym (strict-support round i (extreme .known) (turned u) (corner-around u some i extreme) here apart)))
         (along? (edge cs (previous (length cs) i)) (turned u))
-    strict-touches (OnEdge i) extreme =
-        inl (sym (strict-start round i (extreme .known) (turned u) (turned-some u some) here (edge-along round u some i extreme)))
+    strict-at-support (OnEdge i) extreme =
+        inl (sym (strict-start round i (extreme .known) (turned u) (turned-some u some) here (edge-along u some i round extreme)))
 
   module _ (here : CutAt (length cs) (edge cs) (weak (turned u)) front rest) where
     -- The edge out of a corner ends at the support corner.
@@ -233,10 +195,10 @@ module _ (cs : List Corner) (round : GoesRound (length cs) (edge cs)) (u : Vecto
         let along' : Along (edge cs (previous n (next n i))) (turned u) = rw (previous-next n i below) along in
         sym (weak-end round (next n i) (next-below n i (omega arith)) (turned u) (turned-some u some) here along')
 
-    pub weak-touches : (f : Feature) → ExtremeFeature cs u f → AtSupport (length cs) (supportAt front rest) f
-    weak-touches Within none = absurd none
-    weak-touches (AtCorner i) extreme = ⊎-elim
+    pub weak-at-support : (f : Feature) → ExtremeFeature cs u f → AtSupport (length cs) (supportAt front rest) f
+    weak-at-support Within none = absurd none
+    weak-at-support (AtCorner i) extreme = ⊎-elim
         (λ along. inr (inr (end-there i (extreme .known) along)))
-        (λ apart. inl (sym (weak-support round i (extreme .known) (turned u) (corner-around round u some i extreme) here apart)))
+        (λ apart. inl (sym (weak-support round i (extreme .known) (turned u) (corner-around u some i extreme) here apart)))
         (along? (edge cs i) (turned u))
-    weak-touches (OnEdge i) extreme = inr (end-there i (extreme .known) (edge-along round u some i extreme))
+    weak-at-support (OnEdge i) extreme = inr (end-there i (extreme .known) (edge-along u some i round extreme))

@@ -1,8 +1,8 @@
--- What is extreme in a direction u, told from the edges alone, and what meets a support corner.
+-- What is extreme in a direction u, told from the edges alone, and what lies at a support corner.
 --     ExtremeCorner    the edge into corner i does not fall in the direction u, and the edge out of it does not rise
 --     ExtremeEdge      u is normal to edge i and points outward
---     ExtremeFeature   one of the two
---     AtSupport          a feature is support corner b, one of its two neighbours, or one of the two edges that meet there
+--     ExtremeFeature   the one of the two that speaks of the feature
+--     AtSupport        a feature is support corner b, one of its two neighbours, or one of the two edges that meet there
 -- For a polygon these are what the words say:
 --     corner-extreme-iff    no corner lies farther in the direction u than corner i
 --     edge-extreme-iff      both ends of edge i are extreme in u
@@ -19,16 +19,19 @@ use Rattle.integers.proofs.Polynomial.{_⊗_, _⊖_, ⊝_}
 use Rattle.integers.proofs.Certificate.{_≺_, _≼_, _≗_, hyp, sq, eqn, _⊞_, _⊠_, prove}
 use Rattle.plane.specs.declared.Corner.{Corner}
 use Rattle.plane.specs.declared.Vector.{Vector}
+use Rattle.plane.specs.Point.{whole, _⇢_}
 use Rattle.plane.specs.Vector.{_⇀_, cross, dot, coordinates}
 use Rattle.plane.proofs.Algebra.{O, vec, crossE, dotE, _⇀E_, components, dot-back}
+use Rattle.plane.proofs.Halves.{NonZero}
 use Rattle.plane.proofs.Points.{whole-⇢}
 use Rattle.outline.specs.Convex.{Polygon}
 use Rattle.outline.specs.Corners.{corner, next, previous}
 use Rattle.outline.proofs.CornersLaws.{next-below, previous-below, next-previous, previous-next}
-use Rattle.nearest.proofs.Support.{turns-left, corner-in-piece, corner-cone}
 use Rattle.nearest.specs.declared.Feature.{Feature}
 use Rattle.nearest.specs.declared.Feature.the-variants.{Within, Corner as AtCorner, Edge as OnEdge}
 use Rattle.nearest.specs.Piece.{edge}
+use Rattle.nearest.proofs.Support.{turns-left, corner-in-piece, corner-cone}
+use Rattle.hausdorff.proofs.GoesRound.{turns}
 
 pub record ExtremeCorner (cs : List Corner) (u : Vector) (i : ℕ) : Type 0 where
   pub known : i < length cs
@@ -67,7 +70,7 @@ module _ (u p e : Vector) where
       prove (components (u ∷ p ∷ e ∷ [])) (O ≺ crossE p' e' ∷ dotE u' e' ≗ O ∷ O ≺ crossE u' e' ∷ []) (O ≼ dotE u' p')
       (hyp 1 ⊠ hyp 3 ⊞ hyp 0 ⊠ sq (e' .x) ⊞ hyp 0 ⊠ sq (e' .y) ⊞ eqn 2 (⊝ dotE p' e')) tt
 
-  normal-outward : pos 0 <ℤ dot u u → pos 0 <ℤ cross p e → dot u e ≡ pos 0 → pos 0 ≤ℤ dot u p → pos 0 <ℤ cross u e
+  normal-outward : NonZero u → pos 0 <ℤ cross p e → dot u e ≡ pos 0 → pos 0 ≤ℤ dot u p → pos 0 <ℤ cross u e
   unfolding cross dot
   normal-outward =
       let u' = vec 0 in let p' = vec 2 in let e' = vec 4 in let turn = crossE p' e' in let back = dotE p' e' in
@@ -86,39 +89,38 @@ module _ {cs : List Corner} (polygon : Polygon cs) (u : Vector) (i : ℕ) (below
   abbrev n : ℕ
   n = length cs
 
-  pub corner-extreme-iff : ExtremeCorner cs u i ↔ ((j : ℕ) → j < length cs → dot u (corner cs i ⇀ corner cs j) ≤ℤ pos 0)
+  pub corner-extreme-iff : ExtremeCorner cs u i
+      ↔ ((j : ℕ) → j < length cs → dot u (whole (corner cs i) ⇢ whole (corner cs j)) ≤ℤ pos 0)
   corner-extreme-iff = (
-    λ extreme j known. rw (whole-⇢ (corner cs i) (corner cs j)) at
-        (corner-cone polygon i below u (dot-forth u _ _ (rw (next-previous n i below) at (extreme .not-falling))) (extreme .not-rising)
-        _ (corner-in-piece polygon j known)),
+    λ extreme j known. corner-cone polygon i below u (dot-forth u _ _ (rw (next-previous n i below) at (extreme .not-falling)))
+        (extreme .not-rising) _ (corner-in-piece polygon j known),
     λ none. record {
       known = below;
-      not-falling = rw (next-previous n i below) (dot-back u _ _ (none (previous n i) (previous-below n i below)));
-      not-rising = none (next n i) (next-below n i (omega arith));
+      not-falling = rw (next-previous n i below)
+          (dot-back u _ _ (rw (whole-⇢ (corner cs i) _) at (none (previous n i) (previous-below n i below))));
+      not-rising = rw (whole-⇢ (corner cs i) _) at (none (next n i) (next-below n i (omega arith)));
     },
   )
 
-  turns : pos 0 <ℤ cross (edge cs (previous n i)) (edge cs i)
-  turns = rw (next-previous n i below) (turns-left polygon i below)
+  -- the edge before and this one turn left
+  turns-in : pos 0 <ℤ cross (edge cs (previous n i)) (edge cs i)
+  turns-in = rw (next-previous n i below) (turns-left polygon i below)
 
-  turns-on : pos 0 <ℤ cross (edge cs i) (edge cs (next n i))
-  turns-on = rw (previous-next n i below) at (turns-left polygon (next n i) (next-below n i (omega arith)))
-
-  pub edge-extreme-iff : pos 0 <ℤ dot u u → ExtremeEdge cs u i ↔ (ExtremeCorner cs u i × ExtremeCorner cs u (next (length cs) i))
+  pub edge-extreme-iff : NonZero u → ExtremeEdge cs u i ↔ (ExtremeCorner cs u i × ExtremeCorner cs u (next (length cs) i))
   edge-extreme-iff some = (
     λ extreme. (
       record {
         known = below;
-        not-falling = normal-before u _ _ turns (extreme .normal) (extreme .outward);
+        not-falling = normal-before u _ _ turns-in (extreme .normal) (extreme .outward);
         not-rising = rw (extreme .normal) (≤ℤ-refl (pos 0));
       },
       record {
         known = next-below n i (omega arith);
         not-falling = rw (previous-next n i below, extreme .normal) (≤ℤ-refl (pos 0));
-        not-rising = normal-after u _ _ turns-on (extreme .normal) (extreme .outward);
+        not-rising = normal-after u _ _ (turns polygon i below) (extreme .normal) (extreme .outward);
       },
     ),
     λ (start, end).
         let normal = ≤ℤ-antisym (start .not-rising) (rw (previous-next n i below) at (end .not-falling)) in
-        record { known = below; normal = normal; outward = normal-outward u _ _ some turns normal (start .not-falling) },
+        record { known = below; normal = normal; outward = normal-outward u _ _ some turns-in normal (start .not-falling) },
   )

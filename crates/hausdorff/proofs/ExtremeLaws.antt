@@ -39,7 +39,7 @@ pub turned-some : (u : Vector) → NonZero u → NonZero (turned u)
 unfolding dot
 turned-some u some = rw (solve (components (u ∷ [])) (dotE (turnedE (vec 0)) (turnedE (vec 0))) (dotE (vec 0) (vec 0)) tt) some
 
-module _ {cs : List Corner} (round : GoesRound (length cs) (edge cs)) (u : Vector) (some : NonZero u) (i : ℕ) where
+module _ {cs : List Corner} (u : Vector) (some : NonZero u) (i : ℕ) where
   pub corner-around : ExtremeCorner cs u i → Around (edge cs (previous (length cs) i)) (edge cs i) (turned u)
   corner-around extreme =
       let e = edge cs (previous (length cs) i) in let f = edge cs i in
@@ -47,8 +47,8 @@ module _ {cs : List Corner} (round : GoesRound (length cs) (edge cs)) (u : Vecto
       let right : cross f (turned u) ≤ℤ pos 0 = rw (turned-cross f u) (extreme .not-rising) in
       around-turns e f (turned u) (turned-some u some) left right
 
-  pub edge-along : ExtremeEdge cs u i → Along (edge cs i) (turned u)
-  edge-along extreme =
+  pub edge-along : GoesRound (length cs) (edge cs) → ExtremeEdge cs u i → Along (edge cs i) (turned u)
+  edge-along round extreme =
       let d = edge cs i in
       along-iff d (turned u) (round .nonzero i (extreme .known)) (turned-some u some) .1
       (turned-cross d u ∙ extreme .normal, rw (turned-dot d u) (extreme .outward))

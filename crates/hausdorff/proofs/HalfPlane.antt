@@ -1,28 +1,29 @@
 -- Squared distances. Seen along v - y a point is behind another if it lies less far in that direction, and ahead if farther.
---     half-plane    if z is not ahead of y, and w not behind v, then w is not nearer to z than v is to y
---     not-ahead     so if w is not farther from z than v is from y, it is not ahead of v
---     gap-zero      points that are not apart have the squared distance 0
---     not-beyond    two points are not farther apart than any gap that is not less than their squared distance
---     not-nearer    what is not nearer to v than y is not nearer than the squared distance of v and y
+--     half-plane            if z is not ahead of y, and w not behind v, then w is not nearer to z than v is to y
+--     not-ahead             so if w is not farther from z than v is from y, it is not ahead of v
+--     gap-zero              points that are not apart have the squared distance 0
+--     squaredDistance-is    `squaredDistance` is the squared distance of two points with lower numbers above 0
 use Prim.Native.Nat.{_≤_}
-use mathlib.Core.Path.{_≡_}
+use mathlib.Core.Path.{_≡_, ap, _∙_}
 use mathlib.Core.List.{List, [], _∷_, _++_}
 use native.Mathlib.Omega.{arith}
 use lib.Dec.{T}
-use lib.IntN.{ℤ, pos}
+use lib.IntN.{ℤ, pos, _*ℤ_}
 use lib.Signed.{_≤ℤ_}
 use Rattle.integers.specs.declared.fraction.Fraction.{Fraction}
 use Rattle.integers.specs.Fraction.{NotGreater}
-use Rattle.integers.proofs.Polynomial.{Expr, var, lit, _⊖_, _⊗_, ⊝_, solve}
+use Rattle.integers.proofs.Order.{natAbs-nonneg, *ℤ-pos}
+use Rattle.integers.proofs.Polynomial.{var, lit, _⊖_, _⊗_, ⊝_}
 use Rattle.integers.proofs.Certificate.{Claim, _≺_, _≼_, _≗_, Holds, Cert, hyp, num, sq, eqn, _⊞_, _⊠_, proves, prove}
 use Rattle.integers.proofs.Reflect.{≤-≤ℤ}
+use Rattle.integers.proofs.Ring.{*ℤ-assoc}
 use Rattle.plane.specs.declared.Point.{Point}
-use Rattle.plane.specs.Point.{_⇢_, NotFarther}
+use Rattle.plane.specs.Point.{Proper, _⇢_}
 use Rattle.plane.specs.Vector.{dot}
-use Rattle.plane.proofs.Algebra.{O, dotE}
+use Rattle.plane.proofs.Algebra.{O, dotE, dot-self}
 use Rattle.plane.proofs.Points.{pt, _⇢E_, numbers}
 use Rattle.nearest.specs.Nearest.{SquaredDistance}
-use Rattle.hausdorff.specs.Hausdorff.{NotBeyond, NotNearer}
+use Rattle.hausdorff.specs.Hausdorff.{squaredDistance}
 
 -- |w - z|² - |v - y|² = 2 (v - y)·(w - v) - 2 (v - y)·(z - y) + |(w - v) - (z - y)|², for g = a/k = |v - y|² and h = b/l = |w - z|²
 module _ {v y w z : Point} {g h : Fraction} (at-y : SquaredDistance v y g) (at-z : SquaredDistance w z h)
@@ -56,55 +57,24 @@ module _ {v y w z : Point} {g h : Fraction} (at-y : SquaredDistance v y g) (at-z
   pub not-ahead : NotGreater h g → dot (y ⇢ v) (v ⇢ w) ≤ℤ pos 0
   not-ahead = both .1
 
--- a squared distance is the same from either point
-apart-swap : (y z : Point) → dot (y ⇢ z) (y ⇢ z) ≡ dot (z ⇢ y) (z ⇢ y)
-unfolding dot _⇢_
-apart-swap y z =
-    let d = pt 0 ⇢E pt 3 in let e = pt 3 ⇢E pt 0 in
-    solve (numbers (y ∷ z ∷ [])) (dotE d d) (dotE e e) tt
+-- with a/k for g, and d for |v - y|² times the squares of the lower numbers r and t
+pub gap-zero : {v y : Point} {g : Fraction} → SquaredDistance v y g → dot (y ⇢ v) (y ⇢ v) ≤ℤ pos 0 → g .upper ≡ 0
+gap-zero {v} {y} {g} at-y close =
+    let a = var 0 in let k = var 1 in let d = var 2 in let r = var 3 in let t = var 4 in
+    let none : g .upper ≤ 0 = ≤-≤ℤ (g .upper) 0 .1 (prove
+    (pos (g .upper) ∷ pos (g .lower) ∷ dot (y ⇢ v) (y ⇢ v) ∷ pos (y .lower) ∷ pos (v .lower) ∷ [])
+    (a ⊗ (r ⊗ t) ⊗ (r ⊗ t) ≗ d ⊗ k ∷ O ≺ k ∷ O ≺ r ∷ O ≺ t ∷ d ≼ O ∷ []) (a ≼ O)
+    (hyp 0 ⊠ hyp 3 ⊠ hyp 3 ⊠ hyp 4 ⊠ hyp 4 ⊞ hyp 2 ⊠ hyp 5 ⊞ eqn 1 (lit (pos 1))) tt
+    (at-y .equal) (at-y .lower-positive) (at-y .to-proper) (at-y .from-proper) close) in
+    omega arith
 
--- As expressions: a/k for g, d for |v - y|² times the squares of the lower numbers r and t, and two more numbers.
-abbrev a : Expr
-a = var 0
-
-abbrev k : Expr
-k = var 1
-
-abbrev d : Expr
-d = var 2
-
-abbrev r : Expr
-r = var 3
-
-abbrev t : Expr
-t = var 4
-
-abbrev known : Claim → List Claim
-known c = a ⊗ (r ⊗ t) ⊗ (r ⊗ t) ≗ d ⊗ k ∷ O ≺ k ∷ O ≺ r ∷ O ≺ t ∷ c ∷ []
-
-module _ {v y : Point} {g : Fraction} (at-y : SquaredDistance v y g) where
-  abbrev env : List ℤ → List ℤ
-  env more = pos (g .upper) ∷ pos (g .lower) ∷ dot (y ⇢ v) (y ⇢ v) ∷ pos (y .lower) ∷ pos (v .lower) ∷ more
-
-  -- what follows from the distance and one claim more
-  from : (more : List ℤ) (c goal : Claim) (w : Cert) → T (proves (known c) goal w) → Holds (env more) c → Holds (env more) goal
-  from more c goal w sound =
-      prove (env more) (known c) goal w sound (at-y .equal) (at-y .lower-positive) (at-y .to-proper) (at-y .from-proper)
-
-  pub gap-zero : dot (y ⇢ v) (y ⇢ v) ≤ℤ pos 0 → g .upper ≡ 0
-  gap-zero close =
-      let none : g .upper ≤ 0 = ≤-≤ℤ (g .upper) 0 .1 (from [] (d ≼ O) (a ≼ O)
-      (hyp 0 ⊠ hyp 3 ⊠ hyp 3 ⊠ hyp 4 ⊠ hyp 4 ⊞ hyp 2 ⊠ hyp 5 ⊞ eqn 1 (lit (pos 1))) tt close) in
-      omega arith
-
-  pub not-beyond : (h : Fraction) → NotGreater g h → NotBeyond h v y
-  not-beyond h less =
-      let b = var 5 in let l = var 6 in
-      rw (apart-swap v y) (from (pos (h .upper) ∷ pos (h .lower) ∷ []) (a ⊗ l ≼ b ⊗ k) (d ⊗ l ≼ b ⊗ (t ⊗ r) ⊗ (t ⊗ r))
-      (hyp 0 ⊠ hyp 2 ⊞ hyp 5 ⊠ sq (r ⊗ t) ⊞ eqn 1 (⊝ l)) tt (≤-≤ℤ _ _ .0 less))
-
-  pub not-nearer : (z : Point) → NotFarther v y z → NotNearer g v z
-  not-nearer z less =
-      let e = var 5 in let s = var 6 in
-      rw (apart-swap v z) (from (dot (z ⇢ v) (z ⇢ v) ∷ pos (z .lower) ∷ []) (d ⊗ (s ⊗ s) ≼ e ⊗ (r ⊗ r)) (a ⊗ (t ⊗ s) ⊗ (t ⊗ s) ≼ e ⊗ k)
-      (hyp 0 ⊠ hyp 3 ⊠ hyp 3 ⊞ hyp 2 ⊠ hyp 5 ⊞ eqn 1 (s ⊗ s)) tt less)
+-- the upper number is the size of a sum of squares, and so that sum
+pub squaredDistance-is : (p q : Point) → Proper p → Proper q → SquaredDistance p q (squaredDistance p q)
+squaredDistance-is p q from to =
+    let r = pos (q .lower) *ℤ pos (p .lower) in let above = *ℤ-pos to from in
+    record {
+      from-proper = from;
+      to-proper = to;
+      lower-positive = *ℤ-pos above above;
+      equal = *ℤ-assoc (pos (squaredDistance p q .upper)) r r ∙ ap (λ z. z *ℤ (r *ℤ r)) (natAbs-nonneg (dot-self (q ⇢ p)));
+    }

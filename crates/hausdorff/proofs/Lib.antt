@@ -1,6 +1,7 @@
 -- The law of demand 3, in the order of the argument.
 pub mod GoesRound
 pub mod SortLaws
+pub mod Cyclic
 pub mod OrderLaws
 pub mod LowestLaws
 pub mod Extreme

@@ -1,19 +1,17 @@
 -- The sweep meets what is extreme in one direction.
---     support-after      after some steps a support corner is the start of the outline's first edge still to come, or of its first edge
---     support-below      it is a corner of the outline
---     returns            after all steps the support corners are those before step 1
 --     Met                something holds of the support corners before some step
+--     support-after      after some steps a support corner is the start of the outline's first edge still to come, or of its first edge
+--     returns            after all steps the support corners are those before step 1
 --     meets-corner       for every u: a corner that is extreme in u is a support corner in a step in which a feature of the other outline
---                        that is extreme in u meets the other support corner
---     meets-features     any two features that are extreme in u are met together
-use Prim.Native.Nat.{ℕ, _<_}
-use mathlib.Core.Path.{_≡_, refl, sym, subst}
+--                        that is extreme in u is at the other support corner
+--     meets-features     any two features that are extreme in u are at the support corners of one step
+use Prim.Native.Nat.{ℕ}
+use mathlib.Core.Path.{_≡_, sym, subst}
 use mathlib.Core.Logic.{_⊎_, inl, inr, ⊎-elim}
 use mathlib.Core.Bool.{Bool, true, false, cond}
-use mathlib.Core.List.{List, [], _∷_, _++_, append-nil, List·Memᴰ, List·Memᴰ·head, List·Memᴰ·not-nil}
-use mathlib.Core.List.{Memᴰ·append-right}
+use mathlib.Core.List.{List, [], _∷_, _++_, append-nil, List·Memᴰ, List·Memᴰ·not-nil}
 use native.Mathlib.Omega.{arith}
-use lib.ListN.{length, take, drop, take-append-drop}
+use lib.ListN.{length}
 use lib.Seq.{take-length}
 use Rattle.plane.specs.declared.Vector.{Vector}
 use Rattle.outline.specs.Corners.{next, previous}
@@ -26,41 +24,27 @@ use Rattle.hausdorff.specs.AngularOrder.{PairEdge, direction, angularOrd
 use Rattle.hausdorff.specs.Sweep.{Sweep, begin, passed, step, steps, after}
 use Rattle.plane.proofs.Halves.{NonZero}
 use Rattle.plane.proofs.DirectionLaws.{along?}
-use Rattle.hausdorff.proofs.OrderLaws.{Cyclic, Rounds, order-members, order-length, order-rising, own-members, own-rising, own-cyclic, own-iff}
+use Rattle.hausdorff.proofs.Cyclic.{Cyclic, headOr-head}
+use Rattle.hausdorff.proofs.OrderLaws.{Rounds, order-members, order-length, order-not-falling}
+use Rattle.hausdorff.proofs.OrderLaws.{own-iff, own-append, own-members, own-rising, own-cyclic}
 use Rattle.hausdorff.proofs.Extreme.{ExtremeCorner, ExtremeFeature, AtSupport}
 use Rattle.hausdorff.proofs.ExtremeLaws.{turned, turned-some, corner-around}
-use Rattle.hausdorff.proofs.Cut.{Cut, strict, weak, Divided, divide, headOr-head, CutAt, supportAt}
-use Rattle.hausdorff.proofs.Cut.{strict-support, weak-end, strict-touches, weak-touches}
+use Rattle.hausdorff.proofs.Cut.{Cut, strict, weak, Divided, divide, CutAt, supportAt}
+use Rattle.hausdorff.proofs.Cut.{strict-support, weak-end, strict-at-support, weak-at-support}
 
 abbrev pub Met : Pair → ((Side → ℕ) → Type 0) → List PairEdge → (Side → ℕ) → Type 0
 Met pair Holds [] support = ⊥
 Met pair Holds (e ∷ es) support = Holds support ⊎ Met pair Holds es (passed pair e support)
 
-ownFirst-append : (t : Bool) (i : ℕ) (is js : List ℕ) → ownFirst t i (is ++ js) ≡ ownFirst t i is ++ js
-ownFirst-append true i is js = refl
-ownFirst-append false i is js = refl
-
--- A side's own edges in a joined list are those of its parts.
-own-append : (s : Side) (front rest : List PairEdge) → own s (front ++ rest) ≡ own s front ++ own s rest
-unfolding own
-own-append s [] rest = refl
-own-append s (e ∷ front) rest =
-    rw (own-append s front rest) (ownFirst-append (sameSide s (e .side)) (e .number) (own s front) (own s rest))
-
--- The head of a list is below n where its members and the number for none are.
-headOr-below : (n z : ℕ) (is : List ℕ) → z < n → ((i : ℕ) → List·Memᴰ i is → i < n) → headOr z is < n
-headOr-below n z [] none all = none
-headOr-below n z (i ∷ is) none all = all i (List·Memᴰ·head refl)
-
 -- The support corner is the start of the first edge to come, or z where there is none, and the edges to come go round to z.
 abbrev Follows : ℕ → ℕ → ℕ → List ℕ → Type 0
-Follows n z support is = (support ≡ headOr z is) × Cyclic n z is
+Follows n z support js = (support ≡ headOr z js) × Cyclic n z js
 
 -- So it stays when an edge is passed, one of the side's own or another.
-follows-passed : (n z support i : ℕ) (is : List ℕ) (t : Bool) → Follows n z support (ownFirst t i is)
-    → Follows n z (cond t (next n i) support) is
-follows-passed n z support i is true (here, round) = round
-follows-passed n z support i is false follows = follows
+follows-passed : (n z support i : ℕ) (js : List ℕ) (t : Bool) → Follows n z support (ownFirst t i js)
+    → Follows n z (cond t (next n i) support) js
+follows-passed n z support i js true (here, round) = round
+follows-passed n z support i js false follows = follows
 
 follows-steps : (pair : Pair) (s : Side) (z : ℕ) (front rest : List PairEdge) (sweep : Sweep)
     → Follows (length (pair s)) z (sweep .support s) (own s (front ++ rest)) → steps pair front sweep .support s ≡ headOr z (own s rest)
@@ -91,16 +75,6 @@ module _ (pair : Pair) (rounds : Rounds pair) where
       follows-steps pair s (headOr 0 (own s (angularOrder pair))) front rest (begin pair)
       (rw (← split) (headOr-head (own s (angularOrder pair)), own-cyclic pair rounds s))
 
-  pub support-below : (k : ℕ) (s : Side) → after pair k .support s < length (pair s)
-  unfolding begin
-  support-below k s =
-      let order = angularOrder pair in let n = length (pair s) in
-      let parts : order ≡ take k order ++ drop k order = sym (take-append-drop k order) in
-      let known : (i : ℕ) → List·Memᴰ i (own s order) → i < n = λ i. own-members pair s i .0 in
-      rw (support-after (take k order) (drop k order) parts s)
-      (headOr-below n (headOr 0 (own s order)) (own s (drop k order)) (headOr-below n 0 (own s order) (omega (arith, rounds s .at-least)) known)
-      (λ i there. known i (rw (parts, own-append s (take k order) (drop k order)) (Memᴰ·append-right (own s (take k order)) there))))
-
   pub returns : (s : Side) → after pair (stepCount pair) .support s ≡ begin pair .support s
   unfolding own
   returns s =
@@ -121,7 +95,7 @@ module _ (pair : Pair) (rounds : Rounds pair) where
     -- The angular order is divided at the cut, and so are a side's own edges in it.
     divided : Divided cut (direction pair) (angularOrder pair)
     divided = divide cut (direction pair) (angularOrder pair)
-        (λ e there. rounds (e .side) .nonzero (e .number) (order-members pair e .0 there)) (order-rising pair rounds)
+        (λ e there. rounds (e .side) .nonzero (e .number) (order-members pair e .0 there)) (order-not-falling pair rounds)
 
     own-divided : (s : Side) → own s (angularOrder pair) ≡ own s (divided .front) ++ own s (divided .rest)
     own-divided s = rw (divided .parts) (own-append s (divided .front) (divided .rest))
@@ -144,7 +118,8 @@ module _ (pair : Pair) (rounds : Rounds pair) where
         (subst Holds (λ i s. headOr (headOr 0 (sym (own-divided s) i)) (own s (divided .rest))) holds)
 
   module _ (u : Vector) (some : NonZero u) where
-    -- A corner that an edge with t's direction ends at is the support corner at the weak cut, and any other at the strict cut.
+    -- Let t be u turned left. At the strict cut the edges with directions before t are passed, at the weak cut also those with t's
+    -- direction. A corner that such an edge ends at is the support corner at the weak cut, and any other at the strict cut.
     pub meets-corner : (s : Side) (i : ℕ) (f : Feature) → ExtremeCorner (pair s) u i → ExtremeFeature (pair (other s)) u f
         → Met pair (λ support. (support s ≡ i) × AtSupport (length (pair (other s))) (support (other s)) f)
         (angularOrder pair) (begin pair .support)
@@ -152,20 +127,22 @@ module _ (pair : Pair) (rounds : Rounds pair) where
         let t = turned u in let o = other s in ⊎-elim
         (λ along. met-cut (weak t) _ (
           weak-end (rounds s) i (extreme .known) t (turned-some u some) (cut-at (weak t) s) along,
-          weak-touches (pair o) (rounds o) u some (cut-at (weak t) o) f also,
+          weak-at-support (pair o) (rounds o) u some (cut-at (weak t) o) f also,
         ))
         (λ apart. met-cut (strict t) _ (
-          strict-support (rounds s) i (extreme .known) t (corner-around (rounds s) u some i extreme) (cut-at (strict t) s) apart,
-          strict-touches (pair o) (rounds o) u some (cut-at (strict t) o) f also,
+          strict-support (rounds s) i (extreme .known) t (corner-around u some i extreme) (cut-at (strict t) s) apart,
+          strict-at-support (pair o) (rounds o) u some (cut-at (strict t) o) f also,
         ))
         (along? (edge (pair s) (previous (length (pair s)) i)) t)
 
+    -- Two corners are not always the support corners of one step: of two parallel edges with t's direction A's is passed first, so the
+    -- start of A's and the end of B's never are. This is why a feature is only asked to be at the support corner.
     pub meets-features : (s : Side) (f g : Feature) → ExtremeFeature (pair s) u f → ExtremeFeature (pair (other s)) u g
         → Met pair (λ support. AtSupport (length (pair s)) (support s) f × AtSupport (length (pair (other s))) (support (other s)) g)
         (angularOrder pair) (begin pair .support)
     meets-features s f g extreme also =
         let t = turned u in let o = other s in
         met-cut (strict t) _ (
-          strict-touches (pair s) (rounds s) u some (cut-at (strict t) s) f extreme,
-          strict-touches (pair o) (rounds o) u some (cut-at (strict t) o) g also,
+          strict-at-support (pair s) (rounds s) u some (cut-at (strict t) s) f extreme,
+          strict-at-support (pair o) (rounds o) u some (cut-at (strict t) o) g also,
         )

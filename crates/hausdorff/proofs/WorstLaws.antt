@@ -30,10 +30,10 @@ use Rattle.hausdorff.specs.Counting.{isCounted}
 use Rattle.hausdorff.specs.CornerGap.{cornerGap}
 use Rattle.hausdorff.specs.Worst.{shownNumber, takesPlace, keep}
 use Rattle.hausdorff.specs.Sweep.{Sweep, begin, measured, passed, step, steps, after}
-use Rattle.hausdorff.proofs.GoesRound.{polygon-goes-round}
-use Rattle.hausdorff.proofs.OrderLaws.{Rounds, order-length}
+use Rattle.hausdorff.proofs.OrderLaws.{order-length}
+use Rattle.hausdorff.proofs.LowestLaws.{begins-lowest}
 use Rattle.hausdorff.proofs.Extreme.{AtSupport}
-use Rattle.hausdorff.proofs.SweepLaws.{Met, support-below}
+use Rattle.hausdorff.proofs.SweepLaws.{Met}
 use Rattle.hausdorff.proofs.CountingLaws.{counted-iff}
 use Rattle.hausdorff.proofs.Preference.{Preferred, preferred-refl, preferred-trans, taken-preferred}
 use Rattle.hausdorff.proofs.GapLaws.{gap-positive}
@@ -97,10 +97,6 @@ module _ (pair : Pair) (polygons : Polygons pair) where
       go : (t : Bool) → cond t (next (length (pair s)) (e .number)) (support s) < length (pair s)
       go true = next-below (length (pair s)) (e .number) (omega (arith, known s))
       go false = known s
-
-  -- the sweep's laws ask that the edges go round
-  rounds : Rounds pair
-  rounds s = polygon-goes-round (polygons s)
 
   module _ (s : Side) where
     -- a corner that counts is outside
@@ -166,9 +162,9 @@ module _ (pair : Pair) (polygons : Polygons pair) where
 
     -- it holds before step 1
     begin-running : Running pair s (begin pair)
-    unfolding begin steps
+    unfolding begin
     begin-running = record {
-      known = support-below pair rounds 0;
+      known = λ t. begins-lowest pair polygons t .known;
       holds = tt;
     }
 
