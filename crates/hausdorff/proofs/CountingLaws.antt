@@ -134,7 +134,7 @@ module _ {cs : List Corner} (polygon : Polygon cs) where
         → P (AtCorner i) → P (AtCorner (next (length cs) i)) → P (OnEdge i) → P (a .feature)
     lying i below lies start end between =
         let y = a .point in let e = edge cs i in let p = corner cs i in let j = next (length cs) i in let q = corner cs j in
-        let long = length-above-0 polygon v i below in let known = next-below (length cs) i (omega arith) in
+        let long = length-above-0 polygon i below in let known = next-below (length cs) i (omega arith) in
         elim (≤ℤ-or-<ℤ (dot e (whole p ⇢ y)) (pos 0)) [
           | inl first ↦ fitting (AtCorner i)
               (outside, below, same-sym (no-part e (whole p) y long (lies .on-line) (lies .from-start) first)) start

@@ -75,7 +75,7 @@ module _ {cs : List Corner} (polygon : Polygon cs) where
   extreme-feature v outside (AtCorner i) (below, holds) =
       corner-extreme-iff polygon _ i below .1 (tested-answers polygon v (AtCorner i) (below, holds) .nearest .at-most-0)
   extreme-feature v outside (OnEdge i) (below, holds) =
-      let (normal, outward) = foot-normal (corner cs i) v (edge cs i) (length-above-0 polygon v i below) (edge-test v _ _ .0 holds .0) in
+      let (normal, outward) = foot-normal (corner cs i) v (edge cs i) (length-above-0 polygon i below) (edge-test v _ _ .0 holds .0) in
       record { known = below; normal = normal; outward = outward }
 
 module _ (pair : Pair) (polygons : Polygons pair) where

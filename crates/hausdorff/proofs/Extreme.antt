@@ -30,8 +30,7 @@ use Rattle.outline.proofs.CornersLaws.{next-below, previous-below, next-previou
 use Rattle.nearest.specs.declared.Feature.{Feature}
 use Rattle.nearest.specs.declared.Feature.the-variants.{Within, Corner as AtCorner, Edge as OnEdge}
 use Rattle.nearest.specs.Piece.{edge}
-use Rattle.nearest.proofs.Support.{turns-left, corner-in-piece, corner-cone}
-use Rattle.hausdorff.proofs.GoesRound.{turns}
+use Rattle.nearest.proofs.Support.{turns-left, corner-in-piece, corner-cone, turns-on}
 
 pub record ExtremeCorner (cs : List Corner) (u : Vector) (i : ℕ) : Type 0 where
   pub known : i < length cs
@@ -117,7 +116,7 @@ module _ {cs : List Corner} (polygon : Polygon cs) (u : Vector) (i : ℕ) (below
       record {
         known = next-below n i (omega arith);
         not-falling = rw (previous-next n i below, extreme .normal) (≤ℤ-refl (pos 0));
-        not-rising = normal-after u _ _ (turns polygon i below) (extreme .normal) (extreme .outward);
+        not-rising = normal-after u _ _ (turns-on polygon i below) (extreme .normal) (extreme .outward);
       },
     ),
     λ (start, end).

@@ -1,11 +1,10 @@
 -- The directions of an outline's edges go round once. All laws of the sweep rest on this alone.
 --     GoesRound            n directions go round once
---     turns                an edge of a polygon and the next turn left
 --     polygon-goes-round   the directions of a polygon go round
 --     segment-goes-round   and so do two opposite ones, those of a segment there and back
 use Prim.Native.Nat.{ℕ, zero, suc, _<_, _≤_}
 use mathlib.Core.Path.{_≡_, sym}
-use mathlib.Core.Logic.{_⊎_, inl, inr, ⊎-elim, _≢_}
+use mathlib.Core.Logic.{_⊎_, inl, inr, ⊎-swap, _≢_}
 use mathlib.Core.List.{List, [], _∷_}
 use native.Mathlib.Decide.{ℕ-discrete}
 use native.Mathlib.Omega.{arith}
@@ -17,14 +16,16 @@ use Rattle.integers.proofs.Certificate.{_≺_, _≼_, _≗_, hyp, sq, eqn, _⊞
 use Rattle.plane.specs.declared.Corner.{Corner}
 use Rattle.plane.specs.declared.Vector.{Vector}
 use Rattle.plane.specs.Vector.{_⇀_, cross, dot, side, coordinates}
-use Rattle.plane.proofs.Algebra.{O, vec, crossE, dotE, _⇀E_, sideE, apart-0, cross-length}
+use Rattle.plane.proofs.Algebra.{O, vec, crossE, dotE, _⇀E_, sideE, apart-0}
 use Rattle.outline.specs.Convex.{Polygon}
 use Rattle.outline.specs.Corners.{next}
-use Rattle.outline.proofs.CornersLaws.{next-below, next-other, previous-next}
+use Rattle.outline.proofs.CornersLaws.{next-below, next-other}
 use Rattle.nearest.specs.Piece.{edge}
-use Rattle.nearest.proofs.Support.{not-right, turns-left}
+use Rattle.nearest.proofs.Support.{not-right, turns-on}
+use Rattle.nearest.proofs.LocalLaws.{length-above-0}
 use Rattle.plane.proofs.Halves.{NonZero}
-use Rattle.plane.proofs.DirectionLaws.{Before, Along, Apart, along?, along-iff, before-asym, cross-between, cross-first, cross-last}
+use Rattle.plane.proofs.DirectionLaws.{Before, Along, Apart, not-along-apart, before-asym, before-irrefl, along-iff}
+use Rattle.plane.proofs.DirectionLaws.{cross-between, cross-first, cross-last}
 
 pub record GoesRound (n : ℕ) (d : ℕ → Vector) : Type 0 where
   pub at-least : 2 ≤ n
@@ -36,10 +37,6 @@ pub record GoesRound (n : ℕ) (d : ℕ → Vector) : Type 0 where
   -- where the next comes before, it is the first and this the last
   pub next-first : (i j : ℕ) → i < n → j < n → Before (d (next n i)) (d i) → ¬ Before (d j) (d (next n i))
   pub this-last : (i j : ℕ) → i < n → j < n → Before (d (next n i)) (d i) → ¬ Before (d i) (d j)
-
--- directions that are not the same are apart
-not-along-apart : (d e : Vector) → ¬ Along d e → Apart d e
-not-along-apart d e other = ⊎-elim (λ same. absurd (other same)) (λ apart. apart) (along? d e)
 
 -- ---- a polygon
 
@@ -66,30 +63,21 @@ parallel-right p q a b =
     (hyp 2 ⊠ hyp 3 ⊞ hyp 0 ⊠ sq (e .x) ⊞ hyp 0 ⊠ sq (e .y) ⊞ eqn 1 (dotE e (p' ⇀E a'))) tt
 
 module _ {cs : List Corner} (polygon : Polygon cs) where
-  -- an edge and the next turn left
-  pub turns : (i : ℕ) → i < length cs → pos 0 <ℤ cross (edge cs i) (edge cs (next (length cs) i))
-  turns i below =
-      rw (previous-next (length cs) i below) at (turns-left polygon (next (length cs) i) (next-below (length cs) i (omega arith)))
-
   -- no edge lies between two consecutive ones in direction
   consecutive : (i j : ℕ) → i < length cs → j < length cs
       → ¬ ((pos 0 <ℤ cross (edge cs i) (edge cs j)) × (pos 0 <ℤ cross (edge cs j) (edge cs (next (length cs) i))))
   consecutive i j below known =
       let n = length cs in
       let after = next-below n i (omega arith) in
-      none-within _ _ _ _ _ (turns i below) (not-right polygon i j below known)
+      none-within _ _ _ _ _ (turns-on polygon i below) (not-right polygon i j below known)
       (not-right polygon (next n i) (next n j) after (next-below n j (omega arith))) (not-right polygon j (next n i) known after)
-
-  -- no edge is 0
-  edge-some : (i : ℕ) → i < length cs → NonZero (edge cs i)
-  edge-some i below = cross-length _ _ (turns-left polygon i below)
 
   -- two edges of one direction do not turn left, so neither is the next; and of parallel ones one is right of the other
   not-along : (i j : ℕ) → i < length cs → j < length cs → i ≢ j → ¬ Along (edge cs i) (edge cs j)
   not-along i j below known other same =
-      let (line, along) = along-iff _ _ (edge-some i below) (edge-some j known) .0 same in
+      let (line, along) = along-iff _ _ (length-above-0 polygon i below) (length-above-0 polygon j known) .0 same in
       elim (ℕ-discrete j (next (length cs) i)) [
-        | yes follows ↦ let turn : pos 0 <ℤ cross (edge cs i) (edge cs j) = rw follows (turns i below) in <ℤ-irrefl (rw line at turn)
+        | yes follows ↦ <ℤ-irrefl (rw (rw follows at line) at (turns-on polygon i below))
         | no farther ↦
             let left = polygon .convex i j below known (λ e. other (sym e)) farther in
             clashℤ (parallel-right _ _ _ _ line along left) (not-right polygon j i known below)
@@ -98,11 +86,11 @@ module _ {cs : List Corner} (polygon : Polygon cs) where
 pub polygon-goes-round : {cs : List Corner} → Polygon cs → GoesRound (length cs) (edge cs)
 polygon-goes-round polygon = record {
   at-least = omega arith;
-  nonzero = edge-some polygon;
+  nonzero = length-above-0 polygon;
   distinct = λ i j below known other. not-along-apart _ _ (not-along polygon i j below known other);
-  none-between = λ i j below known a b. consecutive polygon i j below known (cross-between _ _ _ (turns polygon i below) a b);
-  next-first = λ i j below known a b. consecutive polygon i j below known (cross-first _ _ _ (turns polygon i below) a b);
-  this-last = λ i j below known a b. consecutive polygon i j below known (cross-last _ _ _ (turns polygon i below) a b);
+  none-between = λ i j below known a b. consecutive polygon i j below known (cross-between _ _ _ (turns-on polygon i below) a b);
+  next-first = λ i j below known a b. consecutive polygon i j below known (cross-first _ _ _ (turns-on polygon i below) a b);
+  this-last = λ i j below known a b. consecutive polygon i j below known (cross-last _ _ _ (turns-on polygon i below) a b);
 }
 
 -- ---- a segment
@@ -116,11 +104,11 @@ two-go-round d there back differ = record {
   distinct = λ i j below known other.
       elim (this-or-next i j below known) [ inl e ↦ absurd (other (sym e)) | inr e ↦ rw e (next-differs i below) ];
   none-between = λ i j below known a b.
-      elim (this-or-next i j below known) [ inl e ↦ never _ (rw e at a) | inr e ↦ never _ (rw e at b) ];
+      elim (this-or-next i j below known) [ inl e ↦ before-irrefl _ (rw e at a) | inr e ↦ before-irrefl _ (rw e at b) ];
   next-first = λ i j below known a b.
-      elim (this-or-next i j below known) [ inl e ↦ before-asym _ _ a (rw e at b) | inr e ↦ never _ (rw e at b) ];
+      elim (this-or-next i j below known) [ inl e ↦ before-asym _ _ a (rw e at b) | inr e ↦ before-irrefl _ (rw e at b) ];
   this-last = λ i j below known a b.
-      elim (this-or-next i j below known) [ inl e ↦ never _ (rw e at b) | inr e ↦ before-asym _ _ a (rw e at b) ];
+      elim (this-or-next i j below known) [ inl e ↦ before-irrefl _ (rw e at b) | inr e ↦ before-asym _ _ a (rw e at b) ];
 }
   where
     some : (i : ℕ) → i < 2 → NonZero (d i)
@@ -130,7 +118,7 @@ two-go-round d there back differ = record {
 
     next-differs : (i : ℕ) → i < 2 → Apart (d i) (d (next 2 i))
     next-differs zero _ = differ
-    next-differs (suc zero) _ = ⊎-elim inr inl differ
+    next-differs (suc zero) _ = ⊎-swap differ
     next-differs (suc (suc i)) below = absurd (omega arith)
 
     this-or-next : (i j : ℕ) → i < 2 → j < 2 → (j ≡ i) ⊎ (j ≡ next 2 i)
@@ -139,9 +127,6 @@ two-go-round d there back differ = record {
           | yes e ↦ inl e
           | no other ↦ inr (omega (arith, next-other 2 i (omega arith), next-below 2 i (omega arith)))
         ]
-
-    never : (e : Vector) → ¬ Before e e
-    never e itself = before-asym e e itself itself
 
 -- there and back do not point the same way
 there-back : (p q : Corner) → ¬ (pos 0 <ℤ dot (p ⇀ q) (q ⇀ p))

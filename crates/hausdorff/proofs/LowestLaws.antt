@@ -16,19 +16,19 @@ use Rattle.integers.proofs.Certificate.{_≺_, _≼_, _≗_, hyp, eqn, _⊞_, _
 use Rattle.plane.specs.declared.Corner.{Corner}
 use Rattle.plane.specs.declared.Vector.{Vector}
 use Rattle.plane.specs.Vector.{_⇀_, cross, side, coordinates}
-use Rattle.plane.proofs.Algebra.{O, vec, crossE, _⇀E_, sideE, components}
+use Rattle.plane.proofs.Algebra.{O, vec, crossE, _⇀E_, sideE, components, cross-back}
 use Rattle.outline.specs.Convex.{Polygon}
 use Rattle.outline.specs.Corners.{corner, next, previous}
 use Rattle.outline.proofs.CornersLaws.{next-below, next-other, previous-below, next-previous}
 use Rattle.nearest.specs.Piece.{edge}
-use Rattle.nearest.proofs.Support.{not-right}
+use Rattle.nearest.proofs.Support.{not-right, turns-on}
 use Rattle.hausdorff.specs.declared.Side.{Side}
 use Rattle.hausdorff.specs.Pair.{Pair, Polygons}
 use Rattle.hausdorff.specs.AngularOrder.{angularOrder, own, headOr}
 use Rattle.hausdorff.specs.Sweep.{begin}
 use Rattle.plane.proofs.Halves.{Half, half}
 use Rattle.plane.proofs.DirectionLaws.{Before, across}
-use Rattle.hausdorff.proofs.GoesRound.{turns, polygon-goes-round}
+use Rattle.hausdorff.proofs.GoesRound.{polygon-goes-round}
 use Rattle.hausdorff.proofs.OrderLaws.{own-members, own-rising}
 
 pub record LowestLeftmost (cs : List Corner) (i : ℕ) : Type 0 where
@@ -40,9 +40,7 @@ pub record LowestLeftmost (cs : List Corner) (i : ℕ) : Type 0 where
 falls : (e f : Vector) → pos 0 <ℤ cross e f → Before f e → (e .y <ℤ pos 0) × (pos 0 ≤ℤ f .y)
 unfolding cross
 falls e f turn before =
-    let e' = vec 0 in let f' = vec 2 in
-    let (first, second) = across f e before
-    (prove (components (e ∷ f ∷ [])) (O ≺ crossE e' f' ∷ []) (crossE f' e' ≼ O) (hyp 0 ⊞ hyp 1) tt turn) in
+    let (first, second) = across f e before (cross-back e f .0 (<ℤ-≤ℤ turn)) in
     let up = rising (rw first at (half f)) in
     (falling up (rw second at (half e)), up)
   where
@@ -84,10 +82,10 @@ first-lowest : {cs : List Corner} → Polygon cs → (i : ℕ) → i < length cs
 first-lowest {cs} polygon i below before =
     let n = length cs in
     let known = next-below n i (omega arith) in
-    let (down, up) = falls _ _ (turns polygon i below) before in
+    let (down, up) = falls _ _ (turns-on polygon i below) before in
     record {
       known = known;
-      lowest = λ j j-known. lowest-between _ _ _ _ (turns polygon i below) down up
+      lowest = λ j j-known. lowest-between _ _ _ _ (turns-on polygon i below) down up
           (not-right polygon i j below j-known) (not-right polygon (next n i) j known j-known);
     }
 

@@ -32,15 +32,14 @@ use Rattle.nearest.specs.declared.Feature.the-variants.{Within, Corner a
 use Rattle.nearest.specs.declared.NearestPoint.{NearestPoint}
 use Rattle.nearest.specs.Piece.{InPiece}
 use Rattle.nearest.specs.Feature.{values}
-use Rattle.nearest.specs.Local.{squaredLength, along}
 use Rattle.nearest.specs.Nearest.{SquaredDistance, Answers}
-use Rattle.nearest.specs.Local.{isCorner, isEdge, Tested, featureAt, feature, nearest}
+use Rattle.nearest.specs.Local.{squaredLength, along, isCorner, isEdge, Tested, featureAt, feature, nearest}
 use Rattle.nearest.proofs.FirstOf.{firstOf-found}
 use Rattle.nearest.proofs.DistanceLaws.{Known, squared-distance}
 use Rattle.nearest.proofs.FitsLaws.{fits-unique}
 use Rattle.nearest.proofs.LocalLaws.{corner-nearest, edge-nearest, none-holds}
 use Rattle.nearest.proofs.Walk.{corner-test, edge-test, square-at-start, square-at-end}
-use Rattle.nearest.proofs.Support.{turns-left}
+use Rattle.nearest.proofs.Support.{turns-left, turns-on}
 use Rattle.nearest.proofs.NearestLaws.{nearest-self, nearest-unique}
 
 -- what is found at corner i, by the answers of its two tests
@@ -163,7 +162,6 @@ module _ {cs : List Corner} (polygon : Polygon cs) (v : Corner) where
     pub foot-at-end : side p q v <ℤ pos 0 → along p q v ≡ squaredLength p q → feature cs v ≡ AtCorner (next (length cs) i)
     foot-at-end visible at-end =
         let n = length cs in let j = next n i in let known = next-below n i (omega arith) in
-        let turns = rw (previous-next n i below) at (turns-left polygon j known) in
-        let (other, before, after) = square-at-end v p q (corner cs (next n j)) turns visible at-end in
+        let (other, before, after) = square-at-end v p q (corner cs (next n j)) (turns-on polygon i below) visible at-end in
         feature-iff (AtCorner j) .1
         (known, corner-test v _ q _ .1 ((other, rw (previous-next n i below) before), after))

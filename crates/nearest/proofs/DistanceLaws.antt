@@ -70,7 +70,7 @@ module _ {cs : List Corner} (polygon : Polygon cs) (v : Corner) where
   lowers (AtCorner i) known = (whole-proper v, whole-proper v)
   lowers (OnEdge i) known =
       let long : pos 0 <ℤ pos (natAbs (dot (edge cs i) (edge cs i))) =
-      rw (natAbs-nonneg (dot-self (edge cs i))) (length-above-0 polygon v i known) in
+      rw (natAbs-nonneg (dot-self (edge cs i))) (length-above-0 polygon i known) in
       (long, long)
 
   equal : (f : Feature)

@@ -12,7 +12,7 @@ use mathlib.Core.List.{List}
 use native.Mathlib.Omega.{arith}
 use lib.IntN.{ℤ, pos, natAbs, _+ℤ_, _*ℤ_}
 use lib.ListN.{length}
-use lib.Signed.{_≤ℤ_, _<ℤ_, clashℤ}
+use lib.Signed.{_<ℤ_, clashℤ}
 use Rattle.integers.proofs.Order.{ltZ-false, ≮ℤ-≤ℤ, natAbs-nonneg}
 use Rattle.integers.proofs.Descent.{no-descent}
 use Rattle.plane.specs.declared.Corner.{Corner}
@@ -28,18 +28,18 @@ use Rattle.outline.proofs.CornersLaws.{next-below, previous-below, next-previou
 use Rattle.nearest.specs.declared.Feature.the-variants.{Edge as OnEdge}
 use Rattle.nearest.specs.Piece.{InPiece, Outside}
 use Rattle.nearest.specs.Feature.{values}
-use Rattle.nearest.specs.Local.{squaredLength, along}
 use Rattle.nearest.specs.Nearest.{Nearest, Between}
-use Rattle.nearest.specs.Local.{isRight, isCorner, isEdge}
+use Rattle.nearest.specs.Local.{squaredLength, along, isRight, isCorner, isEdge}
 use Rattle.nearest.proofs.PieceLaws.{whole-in-piece}
 use Rattle.nearest.proofs.Support.{not-right, corner-in-piece, turns-left, corner-cone}
 use Rattle.plane.proofs.Foot.{foot-left, foot-on-line, foot-after, foot-before, foot-bound}
 use Rattle.nearest.proofs.Walk.{corner-test, edge-test, PastEnd, PastStart, visible-past, forth, back}
 
-module _ {cs : List Corner} (polygon : Polygon cs) (v : Corner) where
-  pub length-above-0 : (i : ℕ) → i < length cs → pos 0 <ℤ squaredLength (corner cs i) (corner cs (next (length cs) i))
-  length-above-0 i below = cross-length _ _ (turns-left polygon i below)
+pub length-above-0 : {cs : List Corner} → Polygon cs → (i : ℕ) → i < length cs
+    → pos 0 <ℤ squaredLength (corner cs i) (corner cs (next (length cs) i))
+length-above-0 polygon i below = cross-length _ _ (turns-left polygon i below)
 
+module _ {cs : List Corner} (polygon : Polygon cs) (v : Corner) where
   -- the cone at a corner whose test holds has the piece in it, and v not
   pub corner-nearest : (i : ℕ) → i < length cs → isCorner cs v i ≡ true
       → Nearest cs (whole v) (whole (corner cs i)) × Outside cs (whole v)
@@ -63,7 +63,7 @@ module _ {cs : List Corner} (polygon : Polygon cs) (v : Corner) where
       let t = along p q v in
       let n = natAbs (squaredLength p q) in
       let (visible, (after, before)) = edge-test v p q .0 holds in
-      let long = length-above-0 i below in
+      let long = length-above-0 polygon i below in
       let is-n : pos n ≡ squaredLength p q = natAbs-nonneg (dot-self (p ⇀ q)) in
       let long-n : pos 0 <ℤ pos n = rw is-n long in
       let before-n : t <ℤ pos n = rw is-n before in

@@ -2,6 +2,7 @@
 --     not-right          no corner is right of an edge
 --     corner-in-piece    a corner is in the piece
 --     turns-left         the edge into a corner and the edge out of it turn left
+--     turns-on           so do an edge and the next
 --     corner-cone        a linear bound at the two neighbours of a corner holds in the piece
 --     support            for every direction some corner is extreme: no point of the piece lies farther in that direction
 use Prim.Native.Nat.{ℕ, _<_}
@@ -23,7 +24,7 @@ use Rattle.plane.proofs.Cone.{cone}
 use Rattle.plane.proofs.Points.{whole-proper, whole-⇢, line-end}
 use Rattle.outline.specs.Convex.{Polygon}
 use Rattle.outline.specs.Corners.{corner, next, previous, origin}
-use Rattle.outline.proofs.CornersLaws.{next-below, next-other, previous-below, next-previous, next-not-previous}
+use Rattle.outline.proofs.CornersLaws.{next-below, next-other, previous-below, next-previous, previous-next, next-not-previous}
 use Rattle.nearest.specs.Piece.{edge, InPiece}
 
 module _ {cs : List Corner} (polygon : Polygon cs) where
@@ -53,6 +54,10 @@ module _ {cs : List Corner} (polygon : Polygon cs) where
       rw (into, side-end (corner cs (previous n i)) (corner cs i) (corner cs (next n i))) at
       (polygon .convex (previous n i) (next n i) (previous-below n i below) (next-below n i (omega arith))
       (next-not-previous n i (polygon .at-least) below) (rw into (next-other n i (omega arith))))
+
+  pub turns-on : (i : ℕ) → i < length cs → pos 0 <ℤ cross (edge cs i) (edge cs (next (length cs) i))
+  turns-on i below =
+      let n = length cs in rw (previous-next n i below) at (turns-left (next n i) (next-below n i (omega arith)))
 
   -- a point of the piece is right of neither edge at the corner
   pub corner-cone : (i : ℕ) → i < length cs → (u : Vector)

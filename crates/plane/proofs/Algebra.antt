@@ -5,6 +5,7 @@
 --     components, coordinates         the numbers of some vectors, of some points: the k-th is vec (2 k)
 -- Identities:
 --     cross-swap, dot-swap            the arguments exchanged
+--     cross-back                      e is not right of d exactly where d is not left of e
 --     side-end, side-turn             a side number from the edge's other end; of three points taken round
 --     side-same                       against an edge from a point to itself it is 0
 --     side-start, side-stop           and so it is of the edge's own ends
@@ -12,10 +13,12 @@
 --     cramer-x, cramer-y              cross e f times d is cross d f times e plus cross e d times f, in each component
 --     cramer-dot, cramer-cross        the same, dotted with u; crossed with g
 --     dot-self                        a squared length is not negative
---     apart-0, cross-length           points at squared distance 0 are the same; a vector strictly left of another has a length
 --     lagrange, cauchy-schwarz        cross² + dot² is the product of the squared lengths; so dot² is at most that
+--     apart-0                         points at squared distance 0 are the same
+--     turn-length, cross-length       a vector with another strictly on its left has a length; and so has that other
 use Prim.Native.Nat.{ℕ, suc}
 use mathlib.Core.Path.{_≡_}
+use mathlib.Core.Logic.{_↔_}
 use mathlib.Core.List.{List, [], _∷_}
 use lib.IntN.{ℤ, pos, negℤ, _+ℤ_, _*ℤ_}
 use lib.Signed.{_≤ℤ_, _<ℤ_}
@@ -59,6 +62,13 @@ cross-swap a b = solve (components (a ∷ b ∷ [])) (crossE (vec 0) (vec 2)) (�
 pub dot-swap : (a b : Vector) → dot a b ≡ dot b a
 unfolding dot
 dot-swap a b = solve (components (a ∷ b ∷ [])) (dotE (vec 0) (vec 2)) (dotE (vec 2) (vec 0)) tt
+
+pub cross-back : (d e : Vector) → (pos 0 ≤ℤ cross d e) ↔ (cross e d ≤ℤ pos 0)
+unfolding cross
+cross-back d e =
+    let env : List ℤ = components (d ∷ e ∷ []) in
+    let there = crossE (vec 0) (vec 2) in let back = crossE (vec 2) (vec 0) in
+    (prove env (O ≼ there ∷ []) (back ≼ O) (hyp 0 ⊞ hyp 1) tt, prove env (back ≼ O ∷ []) (O ≼ there) (hyp 0 ⊞ hyp 1) tt)
 
 pub side-end : (p q v : Corner) → side p q v ≡ cross (p ⇀ q) (q ⇀ v)
 unfolding cross _⇀_
@@ -143,6 +153,14 @@ apart-0 p q none =
       x = prove (coordinates (p ∷ q ∷ [])) (dotE a a ≼ O ∷ []) (p' .x ≗ q' .x) (hyp 0 ⊠ hyp 0 ⊞ hyp 1 ⊞ sq (a .y)) tt none i;
       y = prove (coordinates (p ∷ q ∷ [])) (dotE a a ≼ O ∷ []) (p' .y ≗ q' .y) (hyp 0 ⊠ hyp 0 ⊞ hyp 1 ⊞ sq (a .x)) tt none i;
     }
+
+-- of two vectors that turn left neither is 0
+pub turn-length : (d e : Vector) → pos 0 <ℤ cross d e → pos 0 <ℤ dot d d
+unfolding cross dot
+turn-length d e =
+    let d' = vec 0 in let e' = vec 2 in
+    prove (components (d ∷ e ∷ [])) (O ≺ crossE d' e' ∷ []) (O ≺ dotE d' d')
+    (hyp 1 ⊠ hyp 1 ⊞ sq (dotE d' e') ⊞ hyp 0 ⊠ sq (e' .x) ⊞ hyp 0 ⊠ sq (e' .y)) tt
 
 pub cross-length : (d e : Vector) → pos 0 <ℤ cross d e → pos 0 <ℤ dot e e
 unfolding cross dot

@@ -1,31 +1,32 @@
 -- The order of directions, for vectors with whole components of any size. A vector that is 0 has no direction.
 --     Before, Along, Apart         d comes before e; neither comes before the other; one of them does
 --     before?, along?              these are decided
---     before-asym, before-trans    the order is strict
---     before-split                 where d comes before f, any third direction comes after d or before f
+--     not-along-apart              directions that are not along are apart
+--     Around                       t lies from e counterclockwise to f, less than a whole turn
+--     Across, across               d is in the first half and e in the second; so it is where d comes before e, which is not left of it
+--     before-asym, before-irrefl   no two directions come before each other, and none before itself
+--     before-split, before-trans   where d comes before f, any third direction comes after d or before f; so the order is transitive
 --     same-iff, along-iff          directions are the same exactly where they are along, which is on one line and the same way
 --     along-apart                  f does not have t's direction where e has it and f another than e
---     Around                       t lies from e counterclockwise to f, less than a whole turn
---     around-start, around-end     so it does where it has the direction of e, or of f
+--     around-start, around-end     t lies around where it has the direction of e, or of f
 --     around-turns                 and where it is not right of e and not left of f
---     across                       where d comes before e, which is not left of it, d is in the first half and e in the second
 --     cross-between, cross-first, cross-last    a direction k from e counterclockwise to f, which is less than half a turn on, is left of e
 --                                  and has f on its left: if it comes between e and f, or, where f comes before e, before f or after e
-use mathlib.Core.Path.{_≡_, refl, sym, _∙_}
-use mathlib.Core.Logic.{_⊎_, inl, inr, ⊎-elim, _↔_}
-use mathlib.Core.Bool.{Bool, true, false, not, _&&_, Bool-discrete, true≢false, false≢true}
+use mathlib.Core.Path.{_≡_, refl, sym, ap, _∙_}
+use mathlib.Core.Logic.{_⊎_, inl, inr, ⊎-elim, _↔_, Iff·trans, Iff·symm}
+use mathlib.Core.Bool.{Bool, true, false, not, Bool-discrete, true≢false}
 use mathlib.Core.List.{List, [], _∷_}
-use lib.IntN.{ℤ, pos}
-use lib.Signed.{_≤ℤ_, _<ℤ_, ltZ, ≤ℤ-refl, clashℤ}
-use Rattle.integers.specs.Equal.{eqZ}
+use borrow.Author.Tests.{not-true}
+use lib.IntN.{pos}
+use lib.Signed.{_≤ℤ_, _<ℤ_, <ℤ-irrefl, clashℤ}
 use Rattle.integers.proofs.Order.{ltZ-true, <ℤ-ltZ, <ℤ-≤ℤ, ≤ℤ-or-<ℤ, ≰ℤ-<ℤ, ≮ℤ-≤ℤ, ≤ℤ-antisym}
 use Rattle.integers.proofs.Polynomial.{Expr}
-use Rattle.integers.proofs.Certificate.{Claim, _≺_, _≼_, Cert, hyp, sq, _⊞_, _⊠_, prove, refute}
-use Rattle.integers.proofs.Reflect.{test-and, test-eqZ}
+use Rattle.integers.proofs.Certificate.{Claim, _≺_, _≼_, Cert, hyp, _⊞_, _⊠_, refute}
+use Rattle.integers.proofs.Reflect.{test-and, test-or, test-eqZ}
 use Rattle.plane.specs.declared.Vector.{Vector}
 use Rattle.plane.specs.Vector.{cross, dot}
-use Rattle.plane.specs.Direction.{isFirstHalf, byHalves, isBefore, sameHalf, sameDirection}
-use Rattle.plane.proofs.Algebra.{O, vec, crossE, dotE, components, cross-length}
+use Rattle.plane.specs.Direction.{isFirstHalf, isBefore, sameHalf, sameDirection}
+use Rattle.plane.proofs.Algebra.{O, vec, crossE, components, cross-swap, cross-back, turn-length, cross-length}
 use Rattle.plane.proofs.Halves.{NonZero, Sign, Reference, reference, line-halves}
 
 abbrev pub Before : Vector → Vector → Type 0
@@ -46,28 +47,13 @@ along? d e = elim (before? d e) [
   | no a ↦ elim (before? e d) [ yes second ↦ inr (inr second) | no b ↦ inl (a, b) ]
 ]
 
+pub not-along-apart : (d e : Vector) → ¬ Along d e → Apart d e
+not-along-apart d e other = ⊎-elim (λ along. absurd (other along)) (λ apart. apart) (along? d e)
+
 -- not both before e and after f; and where e comes before f, neither
 pub record Around (e f t : Vector) : Type 0 where
   pub inside : (¬ Before t e) ⊎ (¬ Before f t)
   pub rising : Before e f → (¬ Before t e) × (¬ Before f t)
-
--- ---- turns
-
--- a vector with another on its left is not 0
-turn-length : (d e : Vector) → pos 0 <ℤ cross d e → NonZero d
-unfolding cross dot
-turn-length d e =
-    let d' = vec 0 in let e' = vec 2 in
-    prove (components (d ∷ e ∷ [])) (O ≺ crossE d' e' ∷ []) (O ≺ dotE d' d')
-    (hyp 1 ⊠ hyp 1 ⊞ sq (dotE d' e') ⊞ hyp 0 ⊠ sq (e' .x) ⊞ hyp 0 ⊠ sq (e' .y)) tt
-
--- e is not right of d exactly where d is not left of e
-cross-back : (d e : Vector) → (pos 0 ≤ℤ cross d e) ↔ (cross e d ≤ℤ pos 0)
-unfolding cross
-cross-back d e =
-    let env : List ℤ = components (d ∷ e ∷ []) in
-    let there = crossE (vec 0) (vec 2) in let back = crossE (vec 2) (vec 0) in
-    (prove env (O ≼ there ∷ []) (back ≼ O) (hyp 0 ⊞ hyp 1) tt, prove env (back ≼ O ∷ []) (O ≼ there) (hyp 0 ⊞ hyp 1) tt)
 
 -- ---- the order by halves
 
@@ -79,27 +65,44 @@ Across d e = (isFirstHalf d ≡ true) × (isFirstHalf e ≡ false)
 abbrev Within : Vector → Vector → Type 0
 Within d e = (isFirstHalf d ≡ isFirstHalf e) × (pos 0 <ℤ cross d e)
 
-byHalves-true : {P : Type 0} (a b w : Bool) → ((w ≡ true) ↔ P) → (byHalves a b w ≡ true) ↔ (((a ≡ true) × (b ≡ false)) ⊎ ((a ≡ b) × P))
-byHalves-true true true w means = (λ p. inr (refl, means .0 p), ⊎-elim (λ c. absurd (true≢false (c .1))) (λ c. means .1 (c .1)))
-byHalves-true true false w means = (λ _. inl (refl, refl), λ _. refl)
-byHalves-true false true w means = (λ p. absurd (false≢true p), ⊎-elim (λ c. c .0) (λ c. c .0))
-byHalves-true false false w means = (λ p. inr (refl, means .0 p), ⊎-elim (λ c. absurd (false≢true (c .0))) (λ c. means .1 (c .1)))
+-- the test of one half
+test-half : (a b : Bool) → (sameHalf a b ≡ true) ↔ (a ≡ b)
+test-half true b = (sym, sym)
+test-half false b = (λ is. sym (not-true b is), λ is. ap not (sym is))
 
 -- d comes before e in one of these two ways
 before-iff : (d e : Vector) → Before d e ↔ (Across d e ⊎ Within d e)
 unfolding isBefore
-before-iff d e = byHalves-true (isFirstHalf d) (isFirstHalf e) (ltZ (pos 0) (cross d e)) (ltZ-true, <ℤ-ltZ)
+before-iff d e =
+    test-or _ _ (test-and _ _ (λ first. first, λ first. first) (not-true (isFirstHalf e), ap not))
+    (test-and _ _ (test-half (isFirstHalf d) (isFirstHalf e)) (ltZ-true, <ℤ-ltZ))
 
--- the way is across if e is not left of d, and within if e is in the first half or d in the second
+-- the way is across if e is not left of d, and within if e is in the first half, or d in the second, or both in one
 module _ (d e : Vector) (before : Before d e) where
   pub across : cross d e ≤ℤ pos 0 → Across d e
   across right = elim (before-iff d e .0 before) [ inl halves ↦ halves | inr (_, left) ↦ clashℤ left right ]
 
+  not-across : ¬ Across d e → Within d e
+  not-across other = ⊎-elim (λ halves. absurd (other halves)) (λ is. is) (before-iff d e .0 before)
+
   within-first : isFirstHalf e ≡ true → Within d e
-  within-first first = elim (before-iff d e .0 before) [ inl (_, second) ↦ absurd (true≢false (sym first ∙ second)) | inr w ↦ w ]
+  within-first first = not-across (λ halves. true≢false (sym first ∙ halves .1))
 
   within-second : isFirstHalf d ≡ false → Within d e
-  within-second second = elim (before-iff d e .0 before) [ inl (first, _) ↦ absurd (true≢false (sym first ∙ second)) | inr w ↦ w ]
+  within-second second = not-across (λ halves. true≢false (sym (halves .0) ∙ second))
+
+  within-same : isFirstHalf d ≡ isFirstHalf e → Within d e
+  within-same same = not-across (λ halves. true≢false (sym (halves .0) ∙ same ∙ halves .1))
+
+-- two vectors are of one half, or one is of the first and the other of the second
+same-or-across : (d e : Vector) → (isFirstHalf d ≡ isFirstHalf e) ⊎ Across d e ⊎ Across e d
+same-or-across d e = go (isFirstHalf d) (isFirstHalf e) refl refl
+  where
+    go : (a b : Bool) → isFirstHalf d ≡ a → isFirstHalf e ≡ b → (isFirstHalf d ≡ isFirstHalf e) ⊎ Across d e ⊎ Across e d
+    go true true first second = inl (first ∙ sym second)
+    go true false first second = inr (inl (first, second))
+    go false true first second = inr (inr (second, first))
+    go false false first second = inl (first ∙ sym second)
 
 -- ---- a third direction beside two of one half
 
@@ -147,28 +150,25 @@ module _ (e f t : Vector) (within : Within e f) (some : NonZero t) where
 pub before-asym : (d e : Vector) → Before d e → ¬ Before e d
 before-asym d e before back = elim (before-iff d e .0 before) [
   | inl (first, second) ↦ true≢false (sym first ∙ sym (within-second e d back second .0) ∙ second)
-  | inr (same, left) ↦
-      let halves = across e d back (cross-back d e .0 (<ℤ-≤ℤ left)) in
-      true≢false (sym (halves .0) ∙ sym same ∙ halves .1)
+  | inr (same, left) ↦ clashℤ (within-same e d back (sym same) .1) (cross-back d e .0 (<ℤ-≤ℤ left))
 ]
+
+pub before-irrefl : (d : Vector) → ¬ Before d d
+before-irrefl d itself = before-asym d d itself itself
 
 -- if all three are of one half, e is left of d or has f on its left
 pub before-split : (d e f : Vector) → NonZero e → Before d f → Before d e ⊎ Before e f
-before-split d e f some before = go (isFirstHalf d) (isFirstHalf e) refl refl
-  where
-    one-half : Within d f → isFirstHalf e ≡ isFirstHalf d → Before d e ⊎ Before e f
-    one-half within same = elim (≤ℤ-or-<ℤ (cross d e) (pos 0)) [
-      | inl right ↦ inr (before-iff e f .1 (inr (same ∙ within .0, ≰ℤ-<ℤ (alike d f e within some same right))))
-      | inr left ↦ inl (before-iff d e .1 (inr (sym same, left)))
+before-split d e f some before = elim (same-or-across d e) [
+  | inl same ↦ elim (before-iff d f .0 before) [
+    | inl (first, second) ↦ inr (before-iff e f .1 (inl (sym same ∙ first, second)))
+    | inr within ↦ elim (≤ℤ-or-<ℤ (cross d e) (pos 0)) [
+      | inl right ↦ inr (before-iff e f .1 (inr (sym same ∙ within .0, ≰ℤ-<ℤ (alike d f e within some (sym same) right))))
+      | inr left ↦ inl (before-iff d e .1 (inr (same, left)))
     ]
-
-    go : (a b : Bool) → isFirstHalf d ≡ a → isFirstHalf e ≡ b → Before d e ⊎ Before e f
-    go true true d-first e-first = elim (before-iff d f .0 before)
-        [ inl (_, second) ↦ inr (before-iff e f .1 (inl (e-first, second))) | inr within ↦ one-half within (e-first ∙ sym d-first) ]
-    go true false d-first e-second = inl (before-iff d e .1 (inl (d-first, e-second)))
-    go false true d-second e-first =
-        inr (before-iff e f .1 (inl (e-first, sym (within-second d f before d-second .0) ∙ d-second)))
-    go false false d-second e-second = one-half (within-second d f before d-second) (e-second ∙ sym d-second)
+  ]
+  | inr (inl to-e) ↦ inl (before-iff d e .1 (inl to-e))
+  | inr (inr (first, second)) ↦ inr (before-iff e f .1 (inl (first, sym (within-second d f before second .0) ∙ second)))
+]
 
 -- f comes after d or before e, and it does not come before e
 pub before-trans : (d e f : Vector) → Before d e → Before e f → Before d f
@@ -178,45 +178,34 @@ before-trans d e f first next = elim (before-iff e f .0 next) [
       ⊎-elim (λ before. before) (λ back. absurd (before-asym e f next back)) (before-split d f e (cross-length e f left) first)
 ]
 
--- the two parts of the test
-same-parts : (d e : Vector) → (sameDirection d e ≡ true) ↔ ((isFirstHalf d ≡ isFirstHalf e) × (cross d e ≡ pos 0))
+-- neither comes before the other exactly where both are of one half and on one line
+along-parts : (d e : Vector) → Along d e ↔ ((isFirstHalf d ≡ isFirstHalf e) × (cross d e ≡ pos 0))
+along-parts d e = (
+  λ (a, b).
+      let same : isFirstHalf d ≡ isFirstHalf e = elim (same-or-across d e) [
+        | inl same ↦ same
+        | inr (inl there) ↦ absurd (a (before-iff d e .1 (inl there)))
+        | inr (inr back) ↦ absurd (b (before-iff e d .1 (inl back)))
+      ] in
+      let right = ≮ℤ-≤ℤ (λ left. a (before-iff d e .1 (inr (same, left)))) in
+      let left = cross-back d e .1 (≮ℤ-≤ℤ (λ left. b (before-iff e d .1 (inr (sym same, left))))) in
+      (same, ≤ℤ-antisym right left),
+  λ (same, line). (
+    λ there. <ℤ-irrefl (rw line at (within-same d e there same .1)),
+    λ back. <ℤ-irrefl (rw (cross-swap e d, line) at (within-same e d back (sym same) .1)),
+  ),
+)
+
+pub same-iff : (d e : Vector) → (sameDirection d e ≡ true) ↔ Along d e
 unfolding sameDirection
-same-parts d e = test-and _ _ (sameHalf-true (isFirstHalf d) (isFirstHalf e)) (test-eqZ (cross d e) (pos 0))
-  where
-    sameHalf-true : (a b : Bool) → (sameHalf a b ≡ true) ↔ (a ≡ b)
-    sameHalf-true true b = (sym, sym)
-    sameHalf-true false true = (λ never. absurd (false≢true never), λ never. absurd (false≢true never))
-    sameHalf-true false false = (λ _. refl, λ _. refl)
-
--- in one half, neither is left of the other where the cross product is 0
-pub same-iff : (d e : Vector) → (sameDirection d e ≡ true) ↔ ((¬ Before d e) × (¬ Before e d))
-unfolding isBefore sameDirection
-same-iff d e = go (isFirstHalf d) (isFirstHalf e)
-  where
-    one-half : (eqZ (cross d e) (pos 0) ≡ true) ↔ ((¬ (ltZ (pos 0) (cross d e) ≡ true)) × (¬ (ltZ (pos 0) (cross e d) ≡ true)))
-    one-half = (
-      λ flat.
-          let level : (cross d e ≤ℤ pos 0) × (pos 0 ≤ℤ cross d e) =
-          rw (test-eqZ (cross d e) (pos 0) .0 flat) (≤ℤ-refl (pos 0), ≤ℤ-refl (pos 0)) in
-          (λ left. clashℤ (ltZ-true left) (level .0), λ back. clashℤ (ltZ-true back) (cross-back d e .0 (level .1))),
-      λ neither.
-          let right = ≮ℤ-≤ℤ (λ left. neither .0 (<ℤ-ltZ left)) in
-          let left = cross-back d e .1 (≮ℤ-≤ℤ (λ back. neither .1 (<ℤ-ltZ back))) in
-          test-eqZ (cross d e) (pos 0) .1 (≤ℤ-antisym right left),
-    )
-
-    go : (a b : Bool) → (sameHalf a b && eqZ (cross d e) (pos 0) ≡ true)
-        ↔ ((¬ (byHalves a b (ltZ (pos 0) (cross d e)) ≡ true)) × (¬ (byHalves b a (ltZ (pos 0) (cross e d)) ≡ true)))
-    go true true = one-half
-    go true false = (λ never. absurd (false≢true never), λ neither. absurd (neither .0 refl))
-    go false true = (λ never. absurd (false≢true never), λ neither. absurd (neither .1 refl))
-    go false false = one-half
+same-iff d e =
+    Iff·trans (test-and _ _ (test-half (isFirstHalf d) (isFirstHalf e)) (test-eqZ (cross d e) (pos 0))) (Iff·symm (along-parts d e))
 
 -- directions are the same exactly where the vectors lie on one line and point the same way
 pub along-iff : (d e : Vector) → NonZero d → NonZero e → Along d e ↔ ((cross d e ≡ pos 0) × (pos 0 <ℤ dot d e))
 along-iff d e d-some e-some = (
-  λ along. let (half, line) = same-parts d e .0 (same-iff d e .1 along) in (line, line-halves d e d-some e-some line .0 half),
-  λ (line, ahead). same-iff d e .0 (same-parts d e .1 (line-halves d e d-some e-some line .1 ahead, line)),
+  λ along. let (half, line) = along-parts d e .0 along in (line, line-halves d e d-some e-some line .0 half),
+  λ (line, ahead). along-parts d e .1 (line-halves d e d-some e-some line .1 ahead, line),
 )
 
 module _ (e f t : Vector) where

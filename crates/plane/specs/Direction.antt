@@ -2,7 +2,7 @@
 --     isFirstHalf      a vector is in the first half turn, counterclockwise from the positive x axis, else in the second
 --     isBefore         the direction of a vector comes before that of another
 --     sameDirection    the two directions are equal
-use mathlib.Core.Bool.{Bool, true, false, _&&_, _||_}
+use mathlib.Core.Bool.{Bool, true, false, not, _&&_, _||_}
 use lib.IntN.{pos}
 use lib.Signed.{ltZ}
 use Rattle.integers.specs.Equal.{eqZ}
@@ -13,22 +13,15 @@ use Rattle.plane.specs.declared.Vector.{Vector}
 unfoldable pub isFirstHalf : Vector → Bool
 isFirstHalf d = ltZ (pos 0) (d .y) || (eqZ (d .y) (pos 0) && ltZ (pos 0) (d .x))
 
--- whether the first of two vectors is in the first half, and the second, and what holds where both are in one half
-abbrev pub byHalves : Bool → Bool → Bool → Bool
-byHalves true true inOne = inOne
-byHalves true false inOne = true
-byHalves false true inOne = false
-byHalves false false inOne = inOne
+abbrev pub sameHalf : Bool → Bool → Bool
+sameHalf true t = t
+sameHalf false t = not t
 
 -- the first half comes first; within a half d comes before e when dx × ey - dy × ex is positive
 unfoldable pub isBefore : Vector → Vector → Bool
-isBefore d e = byHalves (isFirstHalf d) (isFirstHalf e) (ltZ (pos 0) (cross d e))
+isBefore d e =
+    (isFirstHalf d && not (isFirstHalf e)) || (sameHalf (isFirstHalf d) (isFirstHalf e) && ltZ (pos 0) (cross d e))
 
-abbrev pub sameHalf : Bool → Bool → Bool
-sameHalf true t = t
-sameHalf false true = false
-sameHalf false false = true
-
--- and within a half the directions are equal when it is zero
+-- and the directions are equal when it is zero
 unfoldable pub sameDirection : Vector → Vector → Bool
 sameDirection d e = sameHalf (isFirstHalf d) (isFirstHalf e) && eqZ (cross d e) (pos 0)
