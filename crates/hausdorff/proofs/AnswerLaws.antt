@@ -6,11 +6,11 @@
 use Prim.Native.Nat.{ℕ, zero, suc, _<_, _≤_}
 use mathlib.Core.Path.{_≡_, refl, sym, ap, _∙_}
 use mathlib.Core.Logic.{_↔_, _⊎_, inl, inr, ⊎-elim}
-use mathlib.Core.Bool.{Bool, cond}
 use native.Mathlib.Decide.{ℕ-discrete}
 use native.Mathlib.Omega.{arith}
 use lib.ListN.{length}
 use Rattle.integers.specs.Fraction.{NotGreater}
+use Rattle.integers.proofs.FractionOrder.{less-notGreater}
 use Rattle.outline.specs.Corners.{corner}
 use Rattle.plane.specs.Point.{whole}
 use Rattle.nearest.specs.declared.Feature.{Feature}
@@ -30,17 +30,15 @@ use Rattle.hausdorff.specs.Sweep.{after}
 use Rattle.hausdorff.specs.Report.{answer, firstWithin, orFirstWithin}
 use Rattle.hausdorff.specs.Exhaustive.{tried, tryCorners, exhaustive}
 use Rattle.hausdorff.specs.Answer.{IsGap, NotLater, IsAnswer}
-use Rattle.integers.proofs.FractionOrder.{less-isLess, notGreater-isLess, less-notGreater}
 use Rattle.hausdorff.proofs.Preference.{preferred-refl}
 use Rattle.hausdorff.proofs.Leads.{not-later-on-side, not-later-antisym, Leads, leads-map, leads-worse}
-use Rattle.hausdorff.proofs.Leads.{Of, leads-of, by-side, leads-both}
-use Rattle.hausdorff.proofs.WorstLaws.{StoredAs}
+use Rattle.hausdorff.proofs.Leads.{OnSide, by-side, worse-first, worse-second, leads-of, leads-both}
 use Rattle.hausdorff.proofs.SideWorst.{SideWorst, side-worst}
-use Rattle.hausdorff.proofs.GapLaws.{gap-iff, least-iff}
+use Rattle.hausdorff.proofs.GapLaws.{gap-iff, gap-is, least-iff}
 
 -- any corner of the side s
-abbrev On : Pair → Side → CornerGap → Type 0
-On pair s = Of s (λ j. j < length (pair s))
+abbrev AnyOnSide : Pair → Side → CornerGap → Type 0
+AnyOnSide pair s = OnSide s (λ j. j < length (pair s))
 
 -- the worst of a side, or its corner 0 where there is none
 abbrev orFirst : Pair → Side → WorstSoFar → CornerGap
@@ -50,65 +48,63 @@ orFirst pair s (Worst w) = w
 module _ (pair : Pair) (polygons : Polygons pair) where
   -- neither of two answers is greater, so neither is later
   pub answer-unique : (w z : CornerGap) → IsAnswer pair w → IsAnswer pair z → w ≡ z
-  answer-unique w z is also =
-      gap-iff pair polygons w .0 (is .is-gap) .1
+  answer-unique w z p q =
+      gap-iff pair polygons w .0 (p .is-gap) .1
       ∙ not-later-antisym pair (w .side) (z .side) (w .corner) (z .corner)
-      (is .first z (also .is-gap) (also .greatest w (is .is-gap)))
-      (also .first w (is .is-gap) (is .greatest z (also .is-gap)))
-      ∙ sym (gap-iff pair polygons z .0 (also .is-gap) .1)
+      (p .first-of-equals z (q .is-gap) (q .greatest w (p .is-gap)))
+      (q .first-of-equals w (p .is-gap) (p .greatest z (q .is-gap)))
+      ∙ sym (gap-iff pair polygons z .0 (q .is-gap) .1)
 
   -- a side has a corner 0
-  some : (s : Side) → 0 < length (pair s)
-  some s = omega (arith, polygons s .at-least)
+  nonempty : (s : Side) → 0 < length (pair s)
+  nonempty s = omega (arith, polygons s .at-least)
 
   -- what leads among all gaps is the answer
   leads-all : {T : CornerGap → Type 0} {w : CornerGap} → ((z : CornerGap) → IsGap pair z → T z) → Leads pair T w → IsAnswer pair w
   leads-all every leads = record {
     is-gap = leads .is-gap;
-    greatest = λ z is. leads .greatest z is (every z is);
-    first = λ z is. leads .first z is (every z is);
+    greatest = λ z gap. leads .greatest z gap (every z gap);
+    first-of-equals = λ z gap. leads .first-of-equals z gap (every z gap);
   }
 
   -- A's corners and B's are all
-  sides-answer : (w z : CornerGap) → Leads pair (On pair A) w → Leads pair (On pair B) z → IsAnswer pair (worse w z)
-  sides-answer w z p q = leads-all (λ x is. is .known) (leads-both pair polygons (λ s j. j < length (pair s)) w z p q)
+  sides-answer : (w z : CornerGap) → Leads pair (AnyOnSide pair A) w → Leads pair (AnyOnSide pair B) z → IsAnswer pair (worse w z)
+  sides-answer w z p q = leads-all (λ x gap. gap .known) (leads-both pair polygons (λ s j. j < length (pair s)) w z p q)
 
   -- what the sweep finds for a side leads on it, and so does its corner 0 where that is none
-  side-leads : (s : Side) (x : WorstSoFar) → SideWorst pair s x → Leads pair (On pair s) (orFirst pair s x)
-  side-leads s None within =
-      leads-of pair polygons s (λ j. j < length (pair s)) 0 (cornerGap pair s 0) refl (some s) (some s)
-      (λ j below. record { not-less = least-iff pair polygons s s j 0 (within 0 (some s)) .1 (within j below); first = λ _. omega arith })
-  side-leads s (Worst w) is =
-      let known = is .stored .is-outside .known in
-      leads-of pair polygons s (λ j. j < length (pair s)) (is .stored .number) w (is .stored .is) known known (is .preferred)
+  side-leads : (s : Side) (x : WorstSoFar) → SideWorst pair s x → Leads pair (AnyOnSide pair s) (orFirst pair s x)
+  side-leads s None within = leads-of pair polygons s (λ j. j < length (pair s)) (cornerGap pair s 0) (nonempty s) (record {
+    equal = refl;
+    holds = nonempty s;
+    preferred = λ j below. record {
+      not-less = least-iff pair polygons s s j 0 (within 0 (nonempty s)) .1 (within j below);
+      first-of-equals = λ _. omega arith;
+    };
+  })
+  side-leads s (Worst w) (best, outside) = leads-of pair polygons s (λ j. j < length (pair s)) w (best .holds) best
 
   -- a corner outside has a greater gap than one within
-  outside-above : (s t : Side) (w : CornerGap) (j : ℕ) → StoredAs pair s w → InPiece (pair (other t)) (whole (corner (pair t) j))
+  outside-above : (s t : Side) (w : CornerGap) (j : ℕ) → SideWorst pair s (Worst w) → InPiece (pair (other t)) (whole (corner (pair t) j))
       → ¬ NotGreater (w .gap) (cornerGap pair t j .gap)
-  outside-above s t w j is within not-greater =
-      is .is-outside .outside (least-iff pair polygons s t (is .number) j within .0 (rw (is .is) at not-greater))
+  outside-above s t w j (best, outside) within not-greater =
+      outside (least-iff pair polygons s t (w .corner) j within .0 (rw (best .equal) at not-greater))
 
-  -- the overall worst, or A's corner 0, within, is the worse of what leads on A and on B
-  overall-worse : (a b : WorstSoFar) → SideWorst pair A a → SideWorst pair B b
-      → orFirstWithin pair (overall a b) ≡ worse (orFirst pair A a) (orFirst pair B b)
-  overall-worse None None p q =
-      ap (λ (f : Feature). named A 0 (values (pair B) (corner (pair A) 0) f))
-      (sym (within-iff (polygons B) (corner (pair A) 0) .1 (p 0 (some A))))
-      ∙ sym (ap (λ (t : Bool). cond t (cornerGap pair B 0) (cornerGap pair A 0))
-      (notGreater-isLess (cornerGap pair A 0 .gap) (cornerGap pair B 0 .gap)
-      (least-iff pair polygons B A 0 0 (p 0 (some A)) .1 (q 0 (some B)))))
-  overall-worse None (Worst b) p q =
-      sym (ap (λ (t : Bool). cond t b (cornerGap pair A 0))
-      (less-isLess (cornerGap pair A 0 .gap) (b .gap) (outside-above B A b 0 (q .stored) (p 0 (some A)))))
-  overall-worse (Worst a) None p q =
-      sym (ap (λ (t : Bool). cond t (cornerGap pair B 0) a)
-      (notGreater-isLess (a .gap) (cornerGap pair B 0 .gap)
-      (less-notGreater (cornerGap pair B 0 .gap) (a .gap) (outside-above A B a 0 (p .stored) (q 0 (some B))))))
-  overall-worse (Worst a) (Worst b) p q = refl
+  -- the worse of what leads on A and on B is the overall worst, or A's corner 0, within
+  worse-overall : (a b : WorstSoFar) → SideWorst pair A a → SideWorst pair B b
+      → worse (orFirst pair A a) (orFirst pair B b) ≡ orFirstWithin pair (overall a b)
+  worse-overall None None p q =
+      worse-first (cornerGap pair A 0) (cornerGap pair B 0) (least-iff pair polygons B A 0 0 (p 0 (nonempty A)) .1 (q 0 (nonempty B)))
+      ∙ ap (λ (f : Feature). named A 0 (values (pair B) (corner (pair A) 0) f))
+      (within-iff (polygons B) (corner (pair A) 0) .1 (p 0 (nonempty A)))
+  worse-overall None (Worst b) p q = worse-second (cornerGap pair A 0) b (outside-above B A b 0 q (p 0 (nonempty A)))
+  worse-overall (Worst a) None p q =
+      worse-first a (cornerGap pair B 0)
+      (less-notGreater (cornerGap pair B 0 .gap) (a .gap) (outside-above A B a 0 p (q 0 (nonempty B))))
+  worse-overall (Worst a) (Worst b) p q = refl
 
-  -- so it is the answer
+  -- so that is the answer
   overall-answers : (a b : WorstSoFar) → SideWorst pair A a → SideWorst pair B b → IsAnswer pair (orFirstWithin pair (overall a b))
-  overall-answers a b p q = rw (overall-worse a b p q)
+  overall-answers a b p q = rw (worse-overall a b p q) at
       (sides-answer (orFirst pair A a) (orFirst pair B b) (side-leads A a p) (side-leads B b q))
 
   pub sweep-answers : IsAnswer pair (answer pair)
@@ -121,30 +117,33 @@ module _ (pair : Pair) (polygons : Polygons pair) where
     where
       within : (s : Side) → SideWorst pair s None
       within s i below = gap-zero-iff (polygons (other s)) (corner (pair s) i) .0
-          (none (cornerGap pair s i) (gap-iff pair polygons (cornerGap pair s i) .1 (below, refl)))
+          (none (cornerGap pair s i) (gap-is pair polygons s i below))
 
   -- what is tried is the corner's gap
-  tried-leads : (s : Side) (n : ℕ) → n < length (pair s) → Leads pair (Of s (λ j. j ≡ n)) (tried pair s n)
+  tried-leads : (s : Side) (n : ℕ) → n < length (pair s) → Leads pair (OnSide s (λ j. j ≡ n)) (tried pair s n)
   tried-leads s n below =
       let same = ap (named s n) (search-nearest (polygons (other s)) (corner (pair s) n)) in
-      leads-of pair polygons s (λ j. j ≡ n) n (tried pair s n) same below refl
-      (λ j e. rw (e, same) (preferred-refl (shownNumber pair s) (cornerGap pair s n)))
+      leads-of pair polygons s (λ j. j ≡ n) (tried pair s n) below (record {
+        equal = same;
+        holds = refl;
+        preferred = λ j e. rw (e, same) (preferred-refl (shownNumber pair s) (cornerGap pair s n));
+      })
 
   -- where w leads among gaps that are not later than any of side s, trying the corners of s below n leads to what leads among all of these
   tries : {T : CornerGap → Type 0} (s : Side) (w : CornerGap) → Leads pair T w
       → ((x z : CornerGap) → T x → z .side ≡ s → NotLater (x .side) (x .corner) (z .side) (z .corner))
-      → (n : ℕ) → n ≤ length (pair s) → Leads pair (λ z. T z ⊎ Of s (λ j. j < n) z) (tryCorners pair s w n)
+      → (n : ℕ) → n ≤ length (pair s) → Leads pair (λ z. T z ⊎ OnSide s (λ j. j < n) z) (tryCorners pair s w n)
   unfolding tryCorners
-  tries s w leads later zero fits = leads-map (λ z is. (inl, ⊎-elim (λ t. t) (λ of. absurd (omega (arith, of .1))))) leads
+  tries s w leads later zero fits = leads-map (λ z. (inl, ⊎-elim (λ t. t) (λ of. absurd (omega (arith, of .1))))) leads
   tries {T} s w leads later (suc n) fits =
       let rest = tries s w leads later n (omega arith) in
       leads-map one-more
       (leads-worse pair polygons (tryCorners pair s w n) (tried pair s n) rest (tried-leads s n (omega arith))
       (order (tryCorners pair s w n) (rest .among)))
     where
-      one-more : (z : CornerGap) → IsGap pair z
-          → ((T z ⊎ Of s (λ j. j < n) z) ⊎ Of s (λ j. j ≡ n) z) ↔ (T z ⊎ Of s (λ j. j < suc n) z)
-      one-more z is = (
+      one-more : (z : CornerGap)
+          → ((T z ⊎ OnSide s (λ j. j < n) z) ⊎ OnSide s (λ j. j ≡ n) z) ↔ (T z ⊎ OnSide s (λ j. j < suc n) z)
+      one-more z = (
         ⊎-elim (⊎-elim inl (λ (on, below). inr (on, omega arith))) (λ (on, e). inr (on, omega arith)),
         ⊎-elim (λ t. inl (inl t)) (λ (on, below). elim (ℕ-discrete (z .corner) n) [
           | yes e ↦ inr (on, e)
@@ -152,8 +151,8 @@ module _ (pair : Pair) (polygons : Polygons pair) where
         ]),
       )
 
-      order : (w : CornerGap) → T w ⊎ Of s (λ j. j < n) w
-          → (x : CornerGap) → Of s (λ j. j ≡ n) x → NotLater (w .side) (w .corner) (x .side) (x .corner)
+      order : (w : CornerGap) → T w ⊎ OnSide s (λ j. j < n) w
+          → (x : CornerGap) → OnSide s (λ j. j ≡ n) x → NotLater (w .side) (w .corner) (x .side) (x .corner)
       order w among x (on, e) = elim among [
         | inl t ↦ later w x t on
         | inr of ↦ rw (of .0, on) (not-later-on-side s (w .corner) (x .corner) (omega (arith, of .1)))
@@ -162,8 +161,8 @@ module _ (pair : Pair) (polygons : Polygons pair) where
   -- A's corner 0, A's corners, B's corners
   pub search-answers : IsAnswer pair (exhaustive pair)
   search-answers =
-      let first = tried-leads A 0 (some A) in
+      let first = tried-leads A 0 (nonempty A) in
       let on-a = tries A (tried pair A 0) first (λ x z of on. rw (of .0, on) (omega (arith, of .1))) (length (pair A)) (omega arith) in
-      leads-all (λ z is. ⊎-elim (λ a. inl (inr a)) inr (by-side (λ s j. j < length (pair s)) z .1 (is .known)))
+      leads-all (λ z gap. ⊎-elim (λ a. inl (inr a)) inr (by-side (λ s j. j < length (pair s)) z .1 (gap .known)))
       (tries B (tryCorners pair A (tried pair A 0) (length (pair A))) on-a
       (λ x z of on. rw (⊎-elim (λ first. first .0) (λ other. other .0) of, on) tt) (length (pair B)) (omega arith))

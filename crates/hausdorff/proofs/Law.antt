@@ -24,7 +24,7 @@ module _ (pair : Pair) (accepted : AcceptedPair pair) (allowance : ℕ) where
 
   -- the worst so far is one of the gaps that have been counted
   worst-gap : (w : CornerGap) → worstSoFar pair allowance ≡ Worst w → IsGap pair w
-  worst-gap w is = worst-counted pair polygons allowance w is .is-gap
+  worst-gap w equal = worst-counted pair polygons allowance w equal .is-gap
 
   pub law : Law pair allowance (report pair allowance)
   unfolding report
@@ -37,5 +37,5 @@ module _ (pair : Pair) (accepted : AcceptedPair pair) (allowance : ℕ) where
     distance = distance;
     clearance-figure = floor-root (answer pair .gap) (distance .lower-positive);
     worst-is-gap = worst-gap;
-    worst-not-above = λ w is. found .greatest w (worst-gap w is);
+    worst-not-above = λ w equal. found .greatest w (worst-gap w equal);
   }

@@ -28,8 +28,7 @@ use Rattle.hausdorff.specs.AngularOrder.{angularOrder, own, headOr}
 use Rattle.hausdorff.specs.Sweep.{begin}
 use Rattle.plane.proofs.Halves.{Half, half}
 use Rattle.plane.proofs.DirectionLaws.{Before, across}
-use Rattle.hausdorff.proofs.GoesRound.{polygon-goes-round}
-use Rattle.hausdorff.proofs.OrderLaws.{own-members, own-rising}
+use Rattle.hausdorff.proofs.OrderLaws.{polygons-go-round, own-members, own-rising}
 
 pub record LowestLeftmost (cs : List Corner) (i : ℕ) : Type 0 where
   pub known : i < length cs
@@ -107,7 +106,7 @@ unfolding begin
 begins-lowest pair polygons s =
     let n = length (pair s) in
     let three = polygons s .at-least in
-    let (below, first) = head-first n _ _ (omega arith) (own-members pair s) (own-rising pair (λ t. polygon-goes-round (polygons t)) s) in
+    let (below, first) = head-first n _ _ (omega arith) (own-members pair s) (own-rising pair (polygons-go-round polygons) s) in
     let w = previous n (headOr 0 (own s (angularOrder pair))) in
     let known = previous-below n _ below in
     let into = next-previous n _ below in

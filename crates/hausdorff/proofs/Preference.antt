@@ -1,44 +1,49 @@
--- Which of two corners of a side is the worse.
---     Preferred                           its gap is greater, or equal and its shown number not higher
---     preferred-refl, preferred-trans     it is a preorder, on gaps with a lower number above 0
---     taken-preferred                     what `takesPlace` takes is preferred over what it leaves
---     Foremost, foremost                  a number below n that is preferred over all below n; there is one, unless n is 0
-use Prim.Native.Nat.{ℕ, zero, suc, _<_, _≤_}
+-- Which of two corners of a side is the worse, and which of some corners of a side is the worst.
+--     Preferred          its gap is greater, or equal and its shown number not higher
+--     PreferredOf        w is the true gap of a corner of the side that has a property, and preferred over all that have it
+--     preferred-refl     a corner is preferred over itself
+--     taken-preferred    what `takesPlace` takes is preferred over what it leaves
+--     side-trans         preference is transitive on the corners of a side
+--     foremost           a side has a corner that is preferred over all of the side
+use Prim.Native.Nat.{ℕ, _<_, _≤_}
 use mathlib.Core.Path.{_≡_, refl}
+use mathlib.Core.Logic.{_⊎_, inl, inr}
 use mathlib.Core.Bool.{Bool, true, false, cond, not, _&&_, _||_}
-use native.Mathlib.Decide.{ℕ-discrete}
 use native.Mathlib.Omega.{arith}
 use borrow.Author.Tests.{ltb-true, ltb-false}
 use lib.Dec.{ltb}
+use lib.ListN.{length}
 use Rattle.integers.specs.Fraction.{isLess, NotGreater}
-use Rattle.outline.specs.Corners.{corner}
-use Rattle.hausdorff.specs.declared.CornerGap.{CornerGap}
-use Rattle.hausdorff.specs.Pair.{other}
-use Rattle.hausdorff.specs.Worst.{takesPlace}
 use Rattle.integers.proofs.FractionOrder.{notGreater-refl, notGreater-trans, isLess-true, isLess-false, less-notGreater}
+use Rattle.integers.proofs.Greatest.{Greatest, greatest}
+use Rattle.hausdorff.specs.declared.CornerGap.{CornerGap}
+use Rattle.hausdorff.specs.declared.Side.{Side}
+use Rattle.hausdorff.specs.Pair.{Pair, Polygons}
+use Rattle.hausdorff.specs.CornerGap.{cornerGap}
+use Rattle.hausdorff.specs.Worst.{shownNumber, takesPlace}
+use Rattle.hausdorff.proofs.GapLaws.{gap-positive}
 
 pub record Preferred (shown : ℕ → ℕ) (w z : CornerGap) : Type 0 where
   pub not-less : NotGreater (z .gap) (w .gap)
-  pub first : NotGreater (w .gap) (z .gap) → shown (w .corner) ≤ shown (z .corner)
+  pub first-of-equals : NotGreater (w .gap) (z .gap) → shown (w .corner) ≤ shown (z .corner)
 
-pub record Foremost (shown : ℕ → ℕ) (f : ℕ → CornerGap) (n : ℕ) : Type 0 where
-  pub place : ℕ
-  pub below : place < n
-  pub preferred : (i : ℕ) → i < n → Preferred shown (f place) (f i)
+pub record PreferredOf (pair : Pair) (s : Side) (Q : ℕ → Type 0) (w : CornerGap) : Type 0 where
+  pub equal : w ≡ cornerGap pair s (w .corner)
+  pub holds : Q (w .corner)
+  pub preferred : (j : ℕ) → Q j → Preferred (shownNumber pair s) w (cornerGap pair s j)
 
 module _ (shown : ℕ → ℕ) where
-  -- a corner is preferred over itself
   pub preferred-refl : (w : CornerGap) → Preferred shown w w
-  preferred-refl w = record { not-less = notGreater-refl (w .gap); first = λ _. omega arith }
+  preferred-refl w = record { not-less = notGreater-refl (w .gap); first-of-equals = λ _. omega arith }
 
-  -- and preference is transitive
-  pub preferred-trans : (w x z : CornerGap) → 0 < w .gap .lower → 0 < x .gap .lower → 0 < z .gap .lower
+  -- preference is transitive on gaps with a lower number above 0
+  preferred-trans : (w x z : CornerGap) → 0 < w .gap .lower → 0 < x .gap .lower → 0 < z .gap .lower
       → Preferred shown w x → Preferred shown x z → Preferred shown w z
-  preferred-trans w x z w-some x-some z-some p q = record {
-    not-less = notGreater-trans (z .gap) (x .gap) (w .gap) x-some (q .not-less) (p .not-less);
-    first = λ equal.
-        let a = p .first (notGreater-trans (w .gap) (z .gap) (x .gap) z-some equal (q .not-less)) in
-        let b = q .first (notGreater-trans (x .gap) (w .gap) (z .gap) w-some (p .not-less) equal) in
+  preferred-trans w x z w-positive x-positive z-positive p q = record {
+    not-less = notGreater-trans (z .gap) (x .gap) (w .gap) x-positive (q .not-less) (p .not-less);
+    first-of-equals = λ equal.
+        let a = p .first-of-equals (notGreater-trans (w .gap) (z .gap) (x .gap) z-positive equal (q .not-less)) in
+        let b = q .first-of-equals (notGreater-trans (x .gap) (w .gap) (z .gap) w-positive (p .not-less) equal) in
         omega arith;
   }
 
@@ -56,40 +61,32 @@ module _ (shown : ℕ → ℕ) where
           → Preferred shown (cond (s || (not t && u)) new old) (cond (s || (not t && u)) old new)
       go true t u less _ _ _ _ = record {
         not-less = less-notGreater (old .gap) (new .gap) (less refl);
-        first = λ equal. absurd (less refl equal);
+        first-of-equals = λ equal. absurd (less refl equal);
       }
-      go false true u _ not-less greater _ _ = record { not-less = not-less refl; first = λ equal. absurd (greater refl equal) }
-      go false false true _ _ _ not-greater lower = record { not-less = not-greater refl; first = λ _. omega (arith, ltb-true) }
-      go false false false _ not-less _ _ not-lower = record { not-less = not-less refl; first = λ _. omega (arith, ltb-false) }
+      go false true u _ not-less greater _ _ = record { not-less = not-less refl; first-of-equals = λ equal. absurd (greater refl equal) }
+      go false false true _ _ _ not-greater lower = record { not-less = not-greater refl; first-of-equals = λ _. omega (arith, ltb-true) }
+      go false false false _ not-less _ _ not-lower = record { not-less = not-less refl; first-of-equals = λ _. omega (arith, ltb-false) }
 
-  module _ (f : ℕ → CornerGap) (positive : (i : ℕ) → 0 < f i .gap .lower) where
-    -- what is preferred over all below n and over n is preferred over all below n + 1
-    one-more : (n : ℕ) (w : CornerGap) → ((i : ℕ) → i < n → Preferred shown w (f i)) → Preferred shown w (f n)
-        → (i : ℕ) → i < suc n → Preferred shown w (f i)
-    one-more n w earlier last i below = elim (ℕ-discrete i n) [ yes e ↦ rw e last | no other ↦ earlier i (omega arith) ]
+  -- so of two one is preferred
+  preferred-total : (w z : CornerGap) → Preferred shown w z ⊎ Preferred shown z w
+  preferred-total w z = go (takesPlace shown w z) (taken-preferred w z)
+    where
+      go : (t : Bool) → Preferred shown (cond t w z) (cond t z w) → Preferred shown w z ⊎ Preferred shown z w
+      go true p = inl p
+      go false p = inr p
 
-    -- by trying one more at a time
-    pub foremost : (n : ℕ) → 0 < n → Foremost shown f n
-    foremost zero some = absurd (omega arith)
-    foremost (suc zero) some =
-        record { place = 0; below = some; preferred = one-more 0 (f 0) (λ i none. absurd (omega arith)) (preferred-refl (f 0)) }
-    foremost (suc (suc n)) some =
-        let best = foremost (suc n) (omega arith) in
-        go best (takesPlace shown (f (suc n)) (f (best .place))) (taken-preferred (f (suc n)) (f (best .place)))
-      where
-        go : (best : Foremost shown f (suc n)) (t : Bool)
-            → Preferred shown (cond t (f (suc n)) (f (best .place))) (cond t (f (best .place)) (f (suc n)))
-            → Foremost shown f (suc (suc n))
-        go best true p = record {
-          place = suc n;
-          below = omega arith;
-          preferred = one-more (suc n) (f (suc n))
-              (λ i below. preferred-trans (f (suc n)) (f (best .place)) (f i) (positive (suc n)) (positive (best .place)) (positive i)
-              p (best .preferred i below))
-              (preferred-refl (f (suc n)));
-        }
-        go best false p = record {
-          place = best .place;
-          below = omega arith;
-          preferred = one-more (suc n) (f (best .place)) (best .preferred) p;
-        }
+module _ (pair : Pair) (polygons : Polygons pair) (s : Side) where
+  -- for a gap has a lower number above 0
+  pub side-trans : (w x : CornerGap) (i : ℕ) → w ≡ cornerGap pair s (w .corner) → x ≡ cornerGap pair s (x .corner)
+      → Preferred (shownNumber pair s) w x → Preferred (shownNumber pair s) x (cornerGap pair s i)
+      → Preferred (shownNumber pair s) w (cornerGap pair s i)
+  side-trans w x i w-is x-is =
+      preferred-trans (shownNumber pair s) w x (cornerGap pair s i) (rw w-is (gap-positive pair polygons s (w .corner)))
+      (rw x-is (gap-positive pair polygons s (x .corner))) (gap-positive pair polygons s i)
+
+  -- and total, so one is greatest
+  pub foremost : Greatest (λ i j. Preferred (shownNumber pair s) (cornerGap pair s i) (cornerGap pair s j)) (length (pair s))
+  foremost =
+      let gap : ℕ → CornerGap = cornerGap pair s in
+      greatest _ (λ i j. preferred-total (shownNumber pair s) (gap i) (gap j)) (λ i j k. side-trans (gap i) (gap j) k refl refl)
+      (length (pair s)) (omega (arith, polygons s .at-least))

@@ -1,27 +1,27 @@
 -- The worst so far of each side is the greatest gap that has been counted, under the rule for equals, or none.
---     IsOutsideCorner, StoredAs, Stored    what may be stored for a side: none, or the true gap of a corner of it that is not within
---     stored                               only that is stored, after any number of steps
---     Counts, Counted                      a corner counts before a step; it counts in some step up to k
---     GreatestCounted, WorstAfter          what document 01 asks of the worst so far after k steps
---     worst-after                          that is what is stored
---     stored-over                          what is preferred over something stored is preferred over what that is preferred over
---     met-counted                          a corner that is met by its nearest feature counts
+--     WorstOf            a side's worst is the preferred one of the corners that have a property, or none where none has it
+--     Counts, Counted    a corner is the side's support corner, and counts; it does so in some step up to k
+--     worst-after        a side's worst so far after k steps is that of the corners that count in the steps up to k, and a true gap
+--     IsOutsideCorner    a corner of the side that is not within the other piece
+--     counted-outside    what counts is one
+--     AtNearest          a corner is the support corner where its nearest feature is at the other support corner
+--     met-counted        then it counts
 use Prim.Native.Nat.{ℕ, _<_}
-use mathlib.Core.Path.{_≡_, refl, subst}
-use mathlib.Core.Logic.{_⊎_, inl, inr}
-use mathlib.Core.Bool.{Bool, true, false, cond, _&&_}
+use mathlib.Core.Path.{_≡_, refl}
+use mathlib.Core.Logic.{_↔_, _⊎_, inl, inr, ⊎-elim, Iff·rfl}
+use mathlib.Core.Bool.{Bool, true, false, cond, true≢false}
 use mathlib.Core.List.{List, [], _∷_}
 use native.Mathlib.Omega.{arith}
 use lib.ListN.{length, take}
 use lib.Seq.{take-length}
+use Rattle.integers.proofs.Reflect.{test-and}
 use Rattle.plane.specs.Point.{whole}
 use Rattle.outline.specs.Corners.{corner, next}
 use Rattle.outline.proofs.CornersLaws.{next-below}
-use Rattle.nearest.specs.Piece.{Outside, isOutside}
+use Rattle.nearest.specs.Piece.{Outside}
 use Rattle.nearest.specs.Local.{feature}
 use Rattle.nearest.proofs.PieceLaws.{outside-test}
 use Rattle.hausdorff.specs.declared.Side.{Side}
-use Rattle.hausdorff.specs.declared.CornerGap.{CornerGap}
 use Rattle.hausdorff.specs.declared.WorstSoFar.{WorstSoFar}
 use Rattle.hausdorff.specs.declared.WorstSoFar.the-variants.{None, Worst}
 use Rattle.hausdorff.specs.Pair.{Pair, other, sameSide, stepCount, Polygons}
@@ -31,66 +31,105 @@ use Rattle.hausdorff.specs.CornerGap.{cornerGap}
 use Rattle.hausdorff.specs.Worst.{shownNumber, takesPlace, keep}
 use Rattle.hausdorff.specs.Sweep.{Sweep, begin, measured, passed, step, steps, after}
 use Rattle.hausdorff.proofs.OrderLaws.{order-length}
-use Rattle.hausdorff.proofs.LowestLaws.{begins-lowest}
 use Rattle.hausdorff.proofs.Extreme.{AtSupport}
+use Rattle.hausdorff.proofs.LowestLaws.{begins-lowest}
 use Rattle.hausdorff.proofs.SweepLaws.{Met}
 use Rattle.hausdorff.proofs.CountingLaws.{counted-iff}
-use Rattle.hausdorff.proofs.Preference.{Preferred, preferred-refl, preferred-trans, taken-preferred}
-use Rattle.hausdorff.proofs.GapLaws.{gap-positive}
+use Rattle.hausdorff.proofs.Preference.{Preferred, preferred-refl, taken-preferred, side-trans, PreferredOf}
 
--- a corner of the side that is not within the other piece
-pub record IsOutsideCorner (pair : Pair) (s : Side) (i : ℕ) : Type 0 where
-  pub known : i < length (pair s)
-  pub outside : Outside (pair (other s)) (whole (corner (pair s) i))
+abbrev pub WorstOf : Pair → Side → (ℕ → Type 0) → WorstSoFar → Type 0
+WorstOf pair s Q None = (i : ℕ) → ¬ Q i
+WorstOf pair s Q (Worst w) = PreferredOf pair s Q w
 
-pub record StoredAs (pair : Pair) (s : Side) (w : CornerGap) : Type 0 where
-  pub number : ℕ
-  pub is-outside : IsOutsideCorner pair s number
-  pub is : w ≡ cornerGap pair s number
-
-abbrev pub Stored : Pair → Side → WorstSoFar → Type 0
-Stored pair s None = Unit {0}
-Stored pair s (Worst w) = StoredAs pair s w
-
--- corner i is the side's support corner, and counts
 abbrev pub Counts : Pair → Side → ℕ → (Side → ℕ) → Type 0
 Counts pair s i support = (support s ≡ i) × (isCounted (pair (other s)) (support (other s)) (corner (pair s) i) ≡ true)
 
--- it counts in some step up to k
 abbrev pub Counted : Pair → Side → ℕ → ℕ → Type 0
 Counted pair s k i = Met pair (Counts pair s i) (take k (angularOrder pair)) (begin pair .support)
 
--- the greatest counted gap, of equals the corner with the lowest shown number
-pub record GreatestCounted (pair : Pair) (s : Side) (k : ℕ) (w : CornerGap) : Type 0 where
-  pub number : ℕ
-  pub counted : Counted pair s k number
-  pub is : w ≡ cornerGap pair s number
-  pub preferred : (j : ℕ) → Counted pair s k j → Preferred (shownNumber pair s) w (cornerGap pair s j)
+module _ (pair : Pair) (polygons : Polygons pair) (s : Side) where
+  -- only which corners it is the worst of matters, not how that is said
+  worst-map : {Q R : ℕ → Type 0} → ((i : ℕ) → Q i ↔ R i) → (x : WorstSoFar) → WorstOf pair s Q x → WorstOf pair s R x
+  worst-map same None none = λ i r. none i (same i .1 r)
+  worst-map same (Worst w) best = record {
+    equal = best .equal;
+    holds = same (w .corner) .0 (best .holds);
+    preferred = λ j r. best .preferred j (same j .1 r);
+  }
 
-abbrev pub WorstAfter : Pair → Side → ℕ → WorstSoFar → Type 0
-WorstAfter pair s k None = (i : ℕ) → ¬ Counted pair s k i
-WorstAfter pair s k (Worst w) = GreatestCounted pair s k w
+  -- what is kept of the worst of some corners and the worst of others is the worst of all of these
+  keep-worst : (Q R : ℕ → Type 0) (old new : WorstSoFar) → WorstOf pair s Q old → WorstOf pair s R new
+      → WorstOf pair s (λ i. Q i ⊎ R i) (keep (shownNumber pair s) old new)
+  keep-worst Q R None new none q = worst-map (λ i. (inr, ⊎-elim (λ h. absurd (none i h)) (λ h. h))) new q
+  keep-worst Q R (Worst old) None p none = worst-map (λ i. (inl, ⊎-elim (λ h. h) (λ h. absurd (none i h)))) (Worst old) p
+  keep-worst Q R (Worst old) (Worst new) p q =
+      go (takesPlace (shownNumber pair s) new old) (taken-preferred (shownNumber pair s) new old)
+    where
+      go : (t : Bool) → Preferred (shownNumber pair s) (cond t new old) (cond t old new)
+          → PreferredOf pair s (λ i. Q i ⊎ R i) (cond t new old)
+      go true better = record {
+        equal = q .equal;
+        holds = inr (q .holds);
+        preferred = λ j. ⊎-elim
+            (λ h. side-trans pair polygons s new old j (q .equal) (p .equal) better (p .preferred j h)) (q .preferred j);
+      }
+      go false better = record {
+        equal = p .equal;
+        holds = inl (p .holds);
+        preferred = λ j. ⊎-elim
+            (p .preferred j) (λ h. side-trans pair polygons s old new j (p .equal) (q .equal) better (q .preferred j h));
+      }
 
--- none is not a corner
-none-some : {w : CornerGap} → ¬ (None ≡ Worst w)
-none-some is = let z : _≡_ {A = ℕ} 0 1 = cc in omega arith
+  -- what is measured is the support corner, if it counts
+  measured-worst : (support : Side → ℕ) → WorstOf pair s (λ i. Counts pair s i support) (measured pair support s)
+  unfolding measured
+  measured-worst support = go (isCounted (pair (other s)) (support (other s)) (corner (pair s) (support s))) refl
+    where
+      go : (t : Bool) → isCounted (pair (other s)) (support (other s)) (corner (pair s) (support s)) ≡ t
+          → WorstOf pair s (λ i. Counts pair s i support) (cond t (Worst (cornerGap pair s (support s))) None)
+      go true counts = record {
+        equal = refl;
+        holds = (refl, counts);
+        preferred = λ j (here, _). rw (← here) (preferred-refl (shownNumber pair s) (cornerGap pair s (support s)));
+      }
+      go false not-counted = λ i (here, counts). true≢false cc
+
+  -- so after some steps the worst is that of the corners that it was of before and of those that count in one of these
+  steps-worst : (Q : ℕ → Type 0) (es : List PairEdge) (sweep : Sweep) → WorstOf pair s Q (sweep .worst s)
+      → WorstOf pair s (λ i. Q i ⊎ Met pair (Counts pair s i) es (sweep .support)) (steps pair es sweep .worst s)
+  unfolding steps step
+  steps-worst Q [] sweep p = worst-map (λ i. (inl, ⊎-elim (λ h. h) absurd)) (sweep .worst s) p
+  steps-worst Q (e ∷ es) sweep p =
+      worst-map (λ i. (
+        ⊎-elim (⊎-elim inl (λ h. inr (inl h))) (λ h. inr (inr h)),
+        ⊎-elim (λ h. inl (inl h)) (⊎-elim (λ h. inl (inr h)) inr),
+      ))
+      (steps pair (e ∷ es) sweep .worst s)
+      (steps-worst (λ i. Q i ⊎ Counts pair s i (sweep .support)) es (step pair e sweep)
+      (keep-worst Q (λ i. Counts pair s i (sweep .support)) (sweep .worst s) (measured pair (sweep .support) s) p
+      (measured-worst (sweep .support))))
+
+  -- before step 1 it is none
+  pub worst-after : (k : ℕ) → WorstOf pair s (Counted pair s k) (after pair k .worst s)
+  unfolding begin
+  worst-after k =
+      worst-map (λ i. (⊎-elim absurd (λ h. h), inr)) (after pair k .worst s)
+      (steps-worst (λ i. ⊥) (take k (angularOrder pair)) (begin pair) (λ i none. none))
+
+pub record IsOutsideCorner (pair : Pair) (s : Side) (i : ℕ) : Type 0 where
+  pub known : i < length (pair s)
+  pub outside : Outside (pair (other s)) (whole (corner (pair s) i))
 
 -- both support corners are corners of their outlines
 abbrev Supported : Pair → (Side → ℕ) → Type 0
 Supported pair support = (s : Side) → support s < length (pair s)
 
--- what holds before every step: the support corners are corners, and of the side what is stored may be stored
-record Running (pair : Pair) (s : Side) (sweep : Sweep) : Type 0 where
-  known : Supported pair (sweep .support)
-  holds : Stored pair s (sweep .worst s)
-
--- the corner that is stored, if any, is preferred over corner i
-abbrev AtLeast : Pair → Side → ℕ → WorstSoFar → Type 0
-AtLeast pair s i None = ⊥
-AtLeast pair s i (Worst w) = Preferred (shownNumber pair s) w (cornerGap pair s i)
-
 module _ (pair : Pair) (polygons : Polygons pair) where
-  -- passing an edge leads to a corner of its outline
+  -- they are before step 1
+  begin-below : Supported pair (begin pair .support)
+  begin-below s = begins-lowest pair polygons s .known
+
+  -- and passing an edge leads to a corner of its outline
   passed-below : (support : Side → ℕ) → Supported pair support → (e : PairEdge) → Supported pair (passed pair e support)
   passed-below support known e s = go (sameSide s (e .side))
     where
@@ -98,176 +137,41 @@ module _ (pair : Pair) (polygons : Polygons pair) where
       go true = next-below (length (pair s)) (e .number) (omega (arith, known s))
       go false = known s
 
-  module _ (s : Side) where
-    -- a corner that counts is outside
-    measured-stored : (support : Side → ℕ) → Supported pair support → Stored pair s (measured pair support s)
-    unfolding measured isCounted
-    measured-stored support known = go (isOutside (pair (other s)) (corner (pair s) (support s))) _ refl
-      where
-        go : (t u : Bool) → isOutside (pair (other s)) (corner (pair s) (support s)) ≡ t
-            → Stored pair s (cond (t && u) (Worst (cornerGap pair s (support s))) None)
-        go true true outside = record {
-          number = support s;
-          is-outside = record { known = known s; outside = outside-test (pair (other s)) (corner (pair s) (support s)) .0 outside };
-          is = refl;
-        }
-        go true false outside = tt
-        go false u outside = tt
+  -- so they are wherever P is met
+  met-map : {P Q : (Side → ℕ) → Type 0} → ((support : Side → ℕ) → Supported pair support → P support → Q support)
+      → (es : List PairEdge) (support : Side → ℕ) → Supported pair support → Met pair P es support → Met pair Q es support
+  met-map f [] support known none = none
+  met-map f (e ∷ es) support known (inl here) = inl (f support known here)
+  met-map f (e ∷ es) support known (inr later) = inr (met-map f es (passed pair e support) (passed-below support known e) later)
 
-    -- what is kept is one of the two
-    keep-stored : (old new : WorstSoFar) → Stored pair s old → Stored pair s new → Stored pair s (keep (shownNumber pair s) old new)
-    keep-stored None new was is = is
-    keep-stored (Worst old) None was is = was
-    keep-stored (Worst old) (Worst new) was is = go (takesPlace (shownNumber pair s) new old)
-      where
-        go : (t : Bool) → StoredAs pair s (cond t new old)
-        go true = is
-        go false = was
-
-    -- what is stored is a gap, so preference is transitive on it
-    stored-positive : {w : CornerGap} → StoredAs pair s w → 0 < w .gap .lower
-    stored-positive is = rw (is .is) (gap-positive pair polygons s (is .number))
-
-    pub stored-over : (i : ℕ) (w x : CornerGap) → StoredAs pair s w → StoredAs pair s x → Preferred (shownNumber pair s) w x
-        → Preferred (shownNumber pair s) x (cornerGap pair s i) → Preferred (shownNumber pair s) w (cornerGap pair s i)
-    stored-over i w x p q =
-        preferred-trans (shownNumber pair s) w x (cornerGap pair s i) (stored-positive p) (stored-positive q) (gap-positive pair polygons s i)
-
-    -- what is kept is preferred over what either was preferred over
-    keep-at-least : (i : ℕ) (old new : WorstSoFar) → Stored pair s old → Stored pair s new
-        → AtLeast pair s i old ⊎ AtLeast pair s i new → AtLeast pair s i (keep (shownNumber pair s) old new)
-    keep-at-least i None new was is found = elim found [ inl none ↦ absurd none | inr p ↦ p ]
-    keep-at-least i (Worst old) None was is found = elim found [ inl p ↦ p | inr none ↦ absurd none ]
-    keep-at-least i (Worst old) (Worst new) was is found =
-        go (takesPlace (shownNumber pair s) new old) (taken-preferred (shownNumber pair s) new old)
-      where
-        go : (t : Bool) → Preferred (shownNumber pair s) (cond t new old) (cond t old new)
-            → Preferred (shownNumber pair s) (cond t new old) (cornerGap pair s i)
-        go true better = elim found [ inl p ↦ stored-over i new old is was better p | inr p ↦ p ]
-        go false better = elim found [ inl p ↦ p | inr p ↦ stored-over i old new was is better p ]
-
-    -- so each step keeps what holds, and so do all steps
-    step-running : (e : PairEdge) (sweep : Sweep) → Running pair s sweep → Running pair s (step pair e sweep)
-    unfolding step
-    step-running e sweep running = record {
-      known = passed-below (sweep .support) (running .known) e;
-      holds = keep-stored (sweep .worst s) (measured pair (sweep .support) s) (running .holds)
-          (measured-stored (sweep .support) (running .known));
-    }
-
-    steps-running : (es : List PairEdge) (sweep : Sweep) → Running pair s sweep → Running pair s (steps pair es sweep)
-    unfolding steps
-    steps-running [] sweep running = running
-    steps-running (e ∷ es) sweep running = steps-running es (step pair e sweep) (step-running e sweep running)
-
-    -- it holds before step 1
-    begin-running : Running pair s (begin pair)
-    unfolding begin
-    begin-running = record {
-      known = λ t. begins-lowest pair polygons t .known;
-      holds = tt;
-    }
-
-    -- nothing is stored before step 1
-    begin-none : {w : CornerGap} → ¬ (begin pair .worst s ≡ Worst w)
-    unfolding begin
-    begin-none is = none-some is
-
-    -- what is kept is one of the two
-    keep-one : (old new : WorstSoFar) {w : CornerGap} → keep (shownNumber pair s) old new ≡ Worst w → (old ≡ Worst w) ⊎ (new ≡ Worst w)
-    keep-one None new is = inr is
-    keep-one (Worst old) None is = inl is
-    keep-one (Worst old) (Worst new) {w} is = go (takesPlace (shownNumber pair s) new old) is
-      where
-        go : (t : Bool) → Worst (cond t new old) ≡ Worst w → (Worst old ≡ Worst w) ⊎ (Worst new ≡ Worst w)
-        go true e = inr e
-        go false e = inl e
-
-    -- what is measured counts
-    measured-counts : (support : Side → ℕ) {w : CornerGap} → measured pair support s ≡ Worst w
-        → Counts pair s (support s) support × (w ≡ cornerGap pair s (support s))
-    unfolding measured
-    measured-counts support {w} = go (isCounted (pair (other s)) (support (other s)) (corner (pair s) (support s))) refl
-      where
-        go : (t : Bool) → isCounted (pair (other s)) (support (other s)) (corner (pair s) (support s)) ≡ t
-            → cond t (Worst (cornerGap pair s (support s))) None ≡ Worst w
-            → Counts pair s (support s) support × (w ≡ cornerGap pair s (support s))
-        go true counts is = ((refl, counts), cc)
-        go false none is = absurd (none-some is)
-
-    -- and what counts is measured
-    counts-measured : (i : ℕ) (support : Side → ℕ) → Counts pair s i support → AtLeast pair s i (measured pair support s)
-    unfolding measured
-    counts-measured i support (is, counts) = rw (is, counts) (preferred-refl (shownNumber pair s) (cornerGap pair s i))
-
-    -- what is stored was stored before or has been counted
-    found-counted : (es : List PairEdge) (sweep : Sweep) {w : CornerGap} → steps pair es sweep .worst s ≡ Worst w
-        → (sweep .worst s ≡ Worst w) ⊎ ((i : ℕ) × Met pair (Counts pair s i) es (sweep .support) × (w ≡ cornerGap pair s i))
-    unfolding steps step
-    found-counted [] sweep is = inl is
-    found-counted (e ∷ es) sweep is = elim (found-counted es (step pair e sweep) is) [
-      | inl kept ↦ elim (keep-one (sweep .worst s) (measured pair (sweep .support) s) kept) [
-        | inl before ↦ inl before
-        | inr here ↦ let (counts, same) = measured-counts (sweep .support) here in inr (sweep .support s, inl counts, same)
-      ]
-      | inr (i, later, same) ↦ inr (i, inr later, same)
-    ]
-
-    -- a corner that one stored before is preferred over, or that is still to be met, is in the end no worse than what is stored
-    steps-at-least : (i : ℕ) (es : List PairEdge) (sweep : Sweep) → Running pair s sweep
-        → AtLeast pair s i (sweep .worst s) ⊎ Met pair (Counts pair s i) es (sweep .support) → AtLeast pair s i (steps pair es sweep .worst s)
-    unfolding steps step
-    steps-at-least i [] sweep running found = elim found [ inl p ↦ p | inr none ↦ absurd none ]
-    steps-at-least i (e ∷ es) sweep running found =
-        steps-at-least i es (step pair e sweep) (step-running e sweep running)
-        (elim found [
-          | inl p ↦ inl (kept (inl p))
-          | inr later ↦ elim later [
-            | inl here ↦ inl (kept (inr (counts-measured i (sweep .support) here)))
-            | inr met ↦ inr met
-          ]
-        ])
-      where
-        kept : AtLeast pair s i (sweep .worst s) ⊎ AtLeast pair s i (measured pair (sweep .support) s)
-            → AtLeast pair s i (keep (shownNumber pair s) (sweep .worst s) (measured pair (sweep .support) s))
-        kept = keep-at-least i (sweep .worst s) (measured pair (sweep .support) s) (running .holds)
-            (measured-stored (sweep .support) (running .known))
-
-  pub stored : (k : ℕ) (s : Side) → Stored pair s (after pair k .worst s)
-  stored k s = steps-running s (take k (angularOrder pair)) (begin pair) (begin-running s) .holds
-
-  -- a corner that counts in some step up to k is no worse than what is stored then
-  counted-at-least : (k : ℕ) (s : Side) (i : ℕ) → Counted pair s k i → AtLeast pair s i (after pair k .worst s)
-  counted-at-least k s i counted = steps-at-least s i (take k (angularOrder pair)) (begin pair) (begin-running s) (inr counted)
-
-  pub worst-after : (k : ℕ) (s : Side) → WorstAfter pair s k (after pair k .worst s)
-  worst-after k s = go (after pair k .worst s) refl
-    where
-      over : (x : WorstSoFar) → after pair k .worst s ≡ x → (i : ℕ) → Counted pair s k i → AtLeast pair s i x
-      over x is i counted = subst (AtLeast pair s i) is (counted-at-least k s i counted)
-
-      go : (x : WorstSoFar) → after pair k .worst s ≡ x → WorstAfter pair s k x
-      go None is = λ i counted. over None is i counted
-      go (Worst w) is = elim (found-counted s (take k (angularOrder pair)) (begin pair) is) [
-        | inl before ↦ absurd (begin-none s before)
-        | inr (i, counted, same) ↦ record { number = i; counted = counted; is = same; preferred = over (Worst w) is }
-      ]
+  -- what does not depend on the step holds if it is met
+  met-some : {T : Type 0} (es : List PairEdge) (support : Side → ℕ) → Met pair (λ t. T) es support → T
+  met-some [] support none = absurd none
+  met-some (e ∷ es) support (inl here) = here
+  met-some (e ∷ es) support (inr later) = met-some es (passed pair e support) later
 
   module _ (s : Side) (i : ℕ) where
-    -- corner i is the support corner in a step in which its nearest feature is at the other support corner
-    abbrev pub Meets : (Side → ℕ) → Type 0
-    Meets support = (support s ≡ i)
+    -- it is the first test of `isCounted`
+    counts-outside : (support : Side → ℕ) → Supported pair support → Counts pair s i support → IsOutsideCorner pair s i
+    unfolding isCounted
+    counts-outside support known (here, counts) = record {
+      known = rw here at (known s);
+      outside = test-and _ _ (outside-test (pair (other s)) (corner (pair s) i)) Iff·rfl .0 counts .0;
+    }
+
+    pub counted-outside : (k : ℕ) → Counted pair s k i → IsOutsideCorner pair s i
+    counted-outside k counted = met-some (take k (angularOrder pair)) (begin pair .support)
+        (met-map counts-outside (take k (angularOrder pair)) (begin pair .support) begin-below counted)
+
+    abbrev pub AtNearest : (Side → ℕ) → Type 0
+    AtNearest support = (support s ≡ i)
         × AtSupport (length (pair (other s))) (support (other s)) (feature (pair (other s)) (corner (pair s) i))
 
-    meets-counts : (es : List PairEdge) (support : Side → ℕ) → Supported pair support → Met pair Meets es support
-        → Met pair (Counts pair s i) es support
-    meets-counts [] support known none = absurd none
-    meets-counts (e ∷ es) support known (inl (is, at-support)) =
-        inl (is, counted-iff (polygons (other s)) (support (other s)) (known (other s)) (corner (pair s) i) .1 at-support)
-    meets-counts (e ∷ es) support known (inr later) =
-        inr (meets-counts es (passed pair e support) (passed-below support known e) later)
-
-    pub met-counted : Met pair Meets (angularOrder pair) (begin pair .support) → Counted pair s (stepCount pair) i
+    pub met-counted : Met pair AtNearest (angularOrder pair) (begin pair .support) → Counted pair s (stepCount pair) i
     met-counted met =
         rw (← order-length pair, take-length (angularOrder pair))
-        (meets-counts (angularOrder pair) (begin pair .support) (begin-running s .known) met)
+        (met-map (λ support known (here, near). (
+          here,
+          counted-iff (polygons (other s)) (support (other s)) (known (other s)) (corner (pair s) i) .1 near,
+        ))
+        (angularOrder pair) (begin pair .support) begin-below met)

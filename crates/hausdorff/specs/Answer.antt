@@ -27,4 +27,4 @@ NotLater B i B j = i ≤ j
 pub record IsAnswer (pair : Pair) (w : CornerGap) : Type 0 where
   pub is-gap : IsGap pair w
   pub greatest : (z : CornerGap) → IsGap pair z → NotGreater (z .gap) (w .gap)
-  pub first : (z : CornerGap) → IsGap pair z → NotGreater (w .gap) (z .gap) → NotLater (w .side) (w .corner) (z .side) (z .corner)
+  pub first-of-equals : (z : CornerGap) → IsGap pair z → NotGreater (w .gap) (z .gap) → NotLater (w .side) (w .corner) (z .side) (z .corner)

@@ -6,13 +6,14 @@
 --     corner-cone        a linear bound at the two neighbours of a corner holds in the piece
 --     support            for every direction some corner is extreme: no point of the piece lies farther in that direction
 use Prim.Native.Nat.{ℕ, _<_}
+use mathlib.Core.Logic.{inl, inr, ⊎-elim}
 use mathlib.Core.List.{List}
 use native.Mathlib.Decide.{ℕ-discrete}
 use native.Mathlib.Omega.{arith}
-use lib.IntN.{pos}
+use lib.IntN.{ℤ, pos}
 use lib.ListN.{length}
 use lib.Signed.{_≤ℤ_, _<ℤ_, ≤ℤ-refl}
-use Rattle.integers.proofs.Order.{<ℤ-≤ℤ}
+use Rattle.integers.proofs.Order.{<ℤ-≤ℤ, ≤ℤ-or-<ℤ, ≤ℤ-trans}
 use Rattle.integers.proofs.Greatest.{greatest}
 use Rattle.plane.specs.declared.Corner.{Corner}
 use Rattle.plane.specs.declared.Point.{Point}
@@ -72,8 +73,10 @@ module _ {cs : List Corner} (polygon : Polygon cs) where
   -- among the corners one is greatest in the direction u; by `corner-cone` at its two neighbours it is so in the piece
   greatest-corner : (u : Vector) → (w : ℕ) × (w < length cs) × ((i : ℕ) → i < length cs → dot u (corner cs w ⇀ corner cs i) ≤ℤ pos 0)
   greatest-corner u =
-      let best = greatest (λ i. dot u (origin ⇀ corner cs i)) (length cs) (omega arith) in
-      (best .place, best .below, λ i below. dot-less u origin (corner cs (best .place)) (corner cs i) (best .at-most i below))
+      let far : ℕ → ℤ = λ i. dot u (origin ⇀ corner cs i) in
+      let best = greatest (λ i j. far j ≤ℤ far i) (λ i j. ⊎-elim inl (λ less. inr (<ℤ-≤ℤ less)) (≤ℤ-or-<ℤ (far j) (far i)))
+      (λ i j k p q. ≤ℤ-trans q p) (length cs) (omega arith) in
+      (best .place, best .below, λ i below. dot-less u origin (corner cs (best .place)) (corner cs i) (best .over i below))
 
   pub support : (u : Vector) → (w : ℕ) × (w < length cs) × ((z : Point) → InPiece cs z → dot u (whole (corner cs w) ⇢ z) ≤ℤ pos 0)
   support u =
