@@ -1,5 +1,5 @@
 -- Document 01: the sweep.
---     Sweep         what it knows: the support corner of each side, which is document 01's corner in touch, and the worst so far of each side
+--     Sweep         what it knows: the support corner (document 01: corner in touch) and the worst so far of each side
 --     begin         before step 1
 --     measured      what measuring finds of a side: its support corner if it counts, or none
 --     measure       measuring, both ways
