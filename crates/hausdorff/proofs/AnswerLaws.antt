@@ -27,11 +27,11 @@ use Rattle.hausdorff.specs.Pair.{Pair, other, stepCount, Polygons}
 use Rattle.hausdorff.specs.CornerGap.{named, cornerGap, worse}
 use Rattle.hausdorff.specs.Worst.{shownNumber, overall}
 use Rattle.hausdorff.specs.Sweep.{after}
-use Rattle.hausdorff.specs.Report.{answer, firstWithin, orFirstWithin}
-use Rattle.hausdorff.specs.Exhaustive.{tried, tryCorners, exhaustive}
-use Rattle.hausdorff.specs.Answer.{IsGap, NotLater, IsAnswer}
+use Rattle.hausdorff.specs.Report.{answer, zeroWithin, orZeroWithin}
+use Rattle.hausdorff.specs.Exhaustive.{searched, tryCorners, exhaustive}
+use Rattle.hausdorff.specs.Answer.{IsGap, NotLater, IsAnswer, Leads}
 use Rattle.hausdorff.proofs.Preference.{preferred-refl}
-use Rattle.hausdorff.proofs.Leads.{not-later-on-side, not-later-antisym, Leads, leads-map, leads-worse}
+use Rattle.hausdorff.proofs.Leads.{not-later-on-side, not-later-antisym, leads-map, leads-worse}
 use Rattle.hausdorff.proofs.Leads.{OnSide, by-side, worse-first, worse-second, leads-of, leads-both}
 use Rattle.hausdorff.proofs.SideWorst.{SideWorst, side-worst}
 use Rattle.hausdorff.proofs.GapLaws.{gap-iff, gap-is, least-iff}
@@ -51,8 +51,8 @@ module _ (pair : Pair) (polygons : Polygons pair) where
   answer-unique w z p q =
       gap-iff pair polygons w .0 (p .is-gap) .1
       ∙ not-later-antisym pair (w .side) (z .side) (w .corner) (z .corner)
-      (p .first-of-equals z (q .is-gap) (q .greatest w (p .is-gap)))
-      (q .first-of-equals w (p .is-gap) (p .greatest z (q .is-gap)))
+      (p .first-of-equals z (q .is-gap) tt (q .greatest w (p .is-gap) tt))
+      (q .first-of-equals w (p .is-gap) tt (p .greatest z (q .is-gap) tt))
       ∙ sym (gap-iff pair polygons z .0 (q .is-gap) .1)
 
   -- a side has a corner 0
@@ -63,8 +63,9 @@ module _ (pair : Pair) (polygons : Polygons pair) where
   leads-all : {T : CornerGap → Type 0} {w : CornerGap} → ((z : CornerGap) → IsGap pair z → T z) → Leads pair T w → IsAnswer pair w
   leads-all every leads = record {
     is-gap = leads .is-gap;
-    greatest = λ z gap. leads .greatest z gap (every z gap);
-    first-of-equals = λ z gap. leads .first-of-equals z gap (every z gap);
+    among = tt;
+    greatest = λ z gap _. leads .greatest z gap (every z gap);
+    first-of-equals = λ z gap _. leads .first-of-equals z gap (every z gap);
   }
 
   -- A's corners and B's are all
@@ -91,7 +92,7 @@ module _ (pair : Pair) (polygons : Polygons pair) where
 
   -- the worse of what leads on A and on B is the overall worst, or A's corner 0, within
   worse-overall : (a b : WorstSoFar) → SideWorst pair A a → SideWorst pair B b
-      → worse (orFirst pair A a) (orFirst pair B b) ≡ orFirstWithin pair (overall a b)
+      → worse (orFirst pair A a) (orFirst pair B b) ≡ orZeroWithin pair (overall a b)
   worse-overall None None p q =
       worse-first (cornerGap pair A 0) (cornerGap pair B 0) (least-iff pair polygons B A 0 0 (p 0 (nonempty A)) .1 (q 0 (nonempty B)))
       ∙ ap (λ (f : Feature). named A 0 (values (pair B) (corner (pair A) 0) f))
@@ -103,7 +104,7 @@ module _ (pair : Pair) (polygons : Polygons pair) where
   worse-overall (Worst a) (Worst b) p q = refl
 
   -- so that is the answer
-  overall-answers : (a b : WorstSoFar) → SideWorst pair A a → SideWorst pair B b → IsAnswer pair (orFirstWithin pair (overall a b))
+  overall-answers : (a b : WorstSoFar) → SideWorst pair A a → SideWorst pair B b → IsAnswer pair (orZeroWithin pair (overall a b))
   overall-answers a b p q = rw (worse-overall a b p q) at
       (sides-answer (orFirst pair A a) (orFirst pair B b) (side-leads A a p) (side-leads B b q))
 
@@ -112,7 +113,7 @@ module _ (pair : Pair) (polygons : Polygons pair) where
       (side-worst pair polygons A) (side-worst pair polygons B)
 
   -- every corner is within
-  pub zero-answer : ((w : CornerGap) → IsGap pair w → w .gap .upper ≡ 0) → IsAnswer pair (firstWithin pair)
+  pub zero-answer : ((w : CornerGap) → IsGap pair w → w .gap .upper ≡ 0) → IsAnswer pair (zeroWithin pair)
   zero-answer none = overall-answers None None (within A) (within B)
     where
       within : (s : Side) → SideWorst pair s None
@@ -120,10 +121,10 @@ module _ (pair : Pair) (polygons : Polygons pair) where
           (none (cornerGap pair s i) (gap-is pair polygons s i below))
 
   -- what is tried is the corner's gap
-  tried-leads : (s : Side) (n : ℕ) → n < length (pair s) → Leads pair (OnSide s (λ j. j ≡ n)) (tried pair s n)
+  tried-leads : (s : Side) (n : ℕ) → n < length (pair s) → Leads pair (OnSide s (λ j. j ≡ n)) (searched pair s n)
   tried-leads s n below =
       let same = ap (named s n) (search-nearest (polygons (other s)) (corner (pair s) n)) in
-      leads-of pair polygons s (λ j. j ≡ n) (tried pair s n) below (record {
+      leads-of pair polygons s (λ j. j ≡ n) (searched pair s n) below (record {
         equal = same;
         holds = refl;
         preferred = λ j e. rw (e, same) (preferred-refl (shownNumber pair s) (cornerGap pair s n));
@@ -138,7 +139,7 @@ module _ (pair : Pair) (polygons : Polygons pair) where
   tries {T} s w leads later (suc n) fits =
       let rest = tries s w leads later n (omega arith) in
       leads-map one-more
-      (leads-worse pair polygons (tryCorners pair s w n) (tried pair s n) rest (tried-leads s n (omega arith))
+      (leads-worse pair polygons (tryCorners pair s w n) (searched pair s n) rest (tried-leads s n (omega arith))
       (order (tryCorners pair s w n) (rest .among)))
     where
       one-more : (z : CornerGap)
@@ -162,7 +163,7 @@ module _ (pair : Pair) (polygons : Polygons pair) where
   pub search-answers : IsAnswer pair (exhaustive pair)
   search-answers =
       let first = tried-leads A 0 (nonempty A) in
-      let on-a = tries A (tried pair A 0) first (λ x z of on. rw (of .0, on) (omega (arith, of .1))) (length (pair A)) (omega arith) in
+      let on-a = tries A (searched pair A 0) first (λ x z of on. rw (of .0, on) (omega (arith, of .1))) (length (pair A)) (omega arith) in
       leads-all (λ z gap. ⊎-elim (λ a. inl (inr a)) inr (by-side (λ s j. j < length (pair s)) z .1 (gap .known)))
-      (tries B (tryCorners pair A (tried pair A 0) (length (pair A))) on-a
+      (tries B (tryCorners pair A (searched pair A 0) (length (pair A))) on-a
       (λ x z of on. rw (⊎-elim (λ first. first .0) (λ other. other .0) of, on) tt) (length (pair B)) (omega arith))

@@ -2,8 +2,7 @@
 --     outward             the direction from the nearest point to a corner
 --     Extremes            it is not 0, and the corner and its nearest feature are both extreme in it
 --     greatest-extreme    so it is for a corner that has the greatest gap of its side, if it is outside the other piece
---     corners-reach       Lemma 2 of report 83-442, for every position: the squared distance of a point of a piece from its nearest point
---                         is at most some corner's gap
+--     corners-reach       no point of a piece has a greater squared distance from its nearest point than some corner's gap
 --     greatest-directed   the greatest gap of a side's corners is the squared distance from its piece to the other
 --     answer-hausdorff    the answer's gap is the squared Hausdorff distance
 use Prim.Native.Nat.{ℕ, _<_}
@@ -151,6 +150,6 @@ module _ (pair : Pair) (polygons : Polygons pair) where
       let same : w .gap ≡ cornerGap pair s i .gap = ap (λ (z : CornerGap). z .gap) (gap-iff pair polygons w .0 (is .is-gap) .1) in
       record {
         lower-positive = rw same (gap-positive pair polygons s i);
-        at-most = λ t. at-most t (w .gap) (λ j below. is .greatest (cornerGap pair t j) (gap-is pair polygons t j below));
+        at-most = λ t. at-most t (w .gap) (λ j below. is .greatest (cornerGap pair t j) (gap-is pair polygons t j below) tt);
         at-least = (s, rw same (at-least s i (is .is-gap .known)));
       }

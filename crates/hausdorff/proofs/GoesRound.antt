@@ -1,4 +1,4 @@
--- The directions of an outline's edges go round once. All laws of the sweep rest on this alone.
+-- The directions of an outline's edges go round once. The laws of the order, the cuts and the sweep's support corners rest on this alone.
 --     GoesRound            n directions go round once
 --     polygon-goes-round   the directions of a polygon go round
 --     segment-goes-round   and so do two opposite ones, those of a segment there and back

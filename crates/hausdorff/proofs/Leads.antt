@@ -1,7 +1,6 @@
 -- Gaps of corners, and which leads among some of them: the greatest, of equals the first.
 --     not-later-antisym            two corners of which neither is later are one
 --     not-later-on-side            on one side the numbers decide
---     Leads                        w is one of some gaps, the greatest of these, and the first of equals
 --     leads-map                    only which gaps it leads among matters, not how that is said
 --     OnSide, by-side              a corner of a side, whose number has a property; a corner is of A or of B
 --     worse-first, worse-second    the worse of two is the first if the second's gap is not greater, and else the second
@@ -21,7 +20,7 @@ use Rattle.hausdorff.specs.declared.Side.{Side}
 use Rattle.hausdorff.specs.declared.Side.the-variants.{A, B}
 use Rattle.hausdorff.specs.Pair.{Pair, Polygons}
 use Rattle.hausdorff.specs.CornerGap.{cornerGap, worse}
-use Rattle.hausdorff.specs.Answer.{IsGap, NotLater}
+use Rattle.hausdorff.specs.Answer.{IsGap, NotLater, Leads}
 use Rattle.hausdorff.proofs.Preference.{PreferredOf}
 use Rattle.hausdorff.proofs.GapLaws.{gap-iff, gap-is, gap-lower}
 
@@ -35,13 +34,6 @@ not-later-antisym pair B B i j p q = ap (cornerGap pair B) (le-antisymm p q)
 pub not-later-on-side : (s : Side) (i j : ℕ) → i ≤ j → NotLater s i s j
 not-later-on-side A i j p = p
 not-later-on-side B i j p = p
-
-pub record Leads (pair : Pair) (Among : CornerGap → Type 0) (w : CornerGap) : Type 0 where
-  pub is-gap : IsGap pair w
-  pub among : Among w
-  pub greatest : (z : CornerGap) → IsGap pair z → Among z → NotGreater (z .gap) (w .gap)
-  pub first-of-equals : (z : CornerGap) → IsGap pair z → Among z → NotGreater (w .gap) (z .gap)
-      → NotLater (w .side) (w .corner) (z .side) (z .corner)
 
 pub leads-map : {pair : Pair} {T U : CornerGap → Type 0} {w : CornerGap} → ((z : CornerGap) → T z ↔ U z)
     → Leads pair T w → Leads pair U w

@@ -3,6 +3,7 @@
 --     order-arranges, order-members, order-length    it is an arrangement of all edges of both outlines
 --     order-sorted         none is to come before an earlier one
 --     order-not-falling    so directions do not fall
+--     order-ties           and no edge of B stands before one of A that has its direction
 --     own-iff              a side's own edges in a list are those of the list that are of that side
 --     own-append           those in a joined list are those in its parts
 --     own-members          a side's own edges in the order are all its edges
@@ -27,9 +28,9 @@ use Rattle.hausdorff.specs.declared.Side.{Side}
 use Rattle.hausdorff.specs.declared.Side.the-variants.{A, B}
 use Rattle.hausdorff.specs.Pair.{Pair, Polygons, sameSide, stepCount}
 use Rattle.hausdorff.specs.AngularOrder.{PairEdge, direction, isAThenB, precedes, edgesBelow, allEdges, angularOrder}
-use Rattle.hausdorff.specs.AngularOrder.{ownFirst, own, headOr}
+use Rattle.hausdorff.specs.AngularOrder.{consIf, own, headOr}
 use Rattle.plane.proofs.Halves.{NonZero}
-use Rattle.plane.proofs.DirectionLaws.{Before, before-asym, before-trans, before-split, same-iff}
+use Rattle.plane.proofs.DirectionLaws.{Before, before-asym, before-trans, before-split, same-iff, Along}
 use Rattle.hausdorff.proofs.GoesRound.{GoesRound, polygon-goes-round}
 use Rattle.hausdorff.proofs.SortLaws.{related-cons, related-map, arranged-member, arranged-length, sort-arranges, Sorted, sort-sorted}
 use Rattle.hausdorff.proofs.Cyclic.{Rising, Cyclic, rising-cyclic}
@@ -80,7 +81,7 @@ below-distinct s (suc n) = joined-distinct (edgesBelow s n) _ (below-distinct s 
 
 -- An edge stays among a side's own where it is of that side.
 own-first : (s t : Side) (i : ℕ) (js : List ℕ)
-    → ((s ≡ t) × (ownFirst (sameSide s t) i js ≡ i ∷ js)) ⊎ ((s ≢ t) × (ownFirst (sameSide s t) i js ≡ js))
+    → ((s ≡ t) × (consIf (sameSide s t) i js ≡ i ∷ js)) ⊎ ((s ≢ t) × (consIf (sameSide s t) i js ≡ js))
 own-first A A i js = inl (refl, refl)
 own-first A B i js = inr (A-not-B, refl)
 own-first B A i js = inr (λ e. A-not-B (sym e), refl)
@@ -102,7 +103,7 @@ own-iff s i (e ∷ es) = elim (own-first s (e .side) (e .number) (own s es)) [
 ]
 
 -- An edge put before a joined list is put before its first part.
-own-first-append : (t : Bool) (i : ℕ) (js ks : List ℕ) → ownFirst t i (js ++ ks) ≡ ownFirst t i js ++ ks
+own-first-append : (t : Bool) (i : ℕ) (js ks : List ℕ) → consIf t i (js ++ ks) ≡ consIf t i js ++ ks
 own-first-append true i js ks = refl
 own-first-append false i js ks = refl
 
@@ -207,6 +208,12 @@ module _ (pair : Pair) (rounds : Rounds pair) where
 
   pub order-not-falling : Pairwise (λ e f. ¬ Before (direction pair f) (direction pair e)) (angularOrder pair)
   order-not-falling = Pairwise·imp (λ e f later before. true≢false (sym (precedes-iff pair f e .1 (inl before)) ∙ later)) order-sorted
+
+  -- at equal direction A's edge comes first
+  pub order-ties : Pairwise (λ e f. ¬ ((e .side ≡ B) × (f .side ≡ A) × Along (direction pair e) (direction pair f))) (angularOrder pair)
+  order-ties = Pairwise·imp (λ e f later (of-b, of-a, along).
+      let this : isAThenB (f .side) (e .side) ≡ true = rw (of-a, of-b) in
+      true≢false (sym (precedes-iff pair f e .1 (inr (same-iff _ _ .1 (along .1, along .0), this))) ∙ later)) order-sorted
 
   pub own-rising : (s : Side) → Rising (edge (pair s)) (own s (angularOrder pair))
   own-rising s = related-map (λ _ _. Bool-set _ _)

@@ -13,8 +13,10 @@ use Rattle.hausdorff.specs.Pair.{Pair, Polygons}
 use Rattle.hausdorff.specs.CornerGap.{cornerGap}
 use Rattle.hausdorff.specs.Worst.{overall}
 use Rattle.hausdorff.specs.Sweep.{after, worstSoFar}
-use Rattle.hausdorff.proofs.Leads.{Leads, leads-map, OnSide, by-side, leads-of, leads-both}
-use Rattle.hausdorff.proofs.WorstLaws.{WorstOf, Counted, worst-after, counted-outside}
+use Rattle.hausdorff.proofs.Leads.{leads-map, OnSide, by-side, leads-of, leads-both}
+use Rattle.hausdorff.proofs.WorstLaws.{WorstOf, worst-after, counted-outside}
+use Rattle.hausdorff.specs.Counted.{Counted}
+use Rattle.hausdorff.specs.Answer.{Leads}
 
 -- it leads among some gaps, or is none where there are none of these
 abbrev LeadsOrNone : Pair → (CornerGap → Type 0) → WorstSoFar → Type 0

@@ -1,7 +1,8 @@
 -- Each side's own worst corner is counted.
 --     SideWorst        none if every corner of the side is within, else the preferred corner of the side, which is outside
 --     side-worst       that is what the sweep finds
---     side-directed    its gap is the distance from that side's piece to the other, squared
+--     side-directed    its gap is the squared distance from that side's piece to the other
+--     corner-reaches   Lemma 2 of report 83-442, for every position: a corner reaches that distance
 use Prim.Native.Nat.{ℕ, _<_}
 use mathlib.Core.Path.{_≡_, refl, subst}
 use mathlib.Core.Bool.{Bool, true, false}
@@ -26,8 +27,9 @@ use Rattle.hausdorff.proofs.OrderLaws.{polygons-go-round}
 use Rattle.hausdorff.proofs.SweepLaws.{meets-corner}
 use Rattle.hausdorff.proofs.DistanceLaws.{outward, greatest-extreme, greatest-directed}
 use Rattle.hausdorff.proofs.Preference.{Preferred, side-trans, foremost, PreferredOf}
-use Rattle.hausdorff.proofs.WorstLaws.{WorstOf, Counted, worst-after, counted-outside, met-counted}
+use Rattle.hausdorff.proofs.WorstLaws.{WorstOf, worst-after, counted-outside, met-counted}
 use Rattle.hausdorff.proofs.GapLaws.{least-iff}
+use Rattle.hausdorff.specs.Counted.{Counted}
 
 abbrev pub SideWorst : Pair → Side → WorstSoFar → Type 0
 SideWorst pair s None = (i : ℕ) → i < length (pair s) → InPiece (pair (other s)) (whole (corner (pair s) i))
@@ -84,3 +86,8 @@ module _ (pair : Pair) (polygons : Polygons pair) (s : Side) where
       let (best, outside) : SideWorst pair s (Worst w) = subst (SideWorst pair s) equal side-worst in
       rw (best .equal) (greatest-directed pair polygons s (w .corner) (best .holds)
       (λ j below. rw (best .equal) at (best .preferred j below .not-less)))
+
+  pub corner-reaches : (i : ℕ) × (i < length (pair s)) × Directed (pair s) (pair (other s)) (cornerGap pair s i .gap)
+  corner-reaches =
+      let best = foremost pair polygons s in
+      (best .place, best .below, greatest-directed pair polygons s (best .place) (best .below) (λ j below. best .over j below .not-less))

@@ -1,5 +1,4 @@
 -- The sweep meets what is extreme in one direction.
---     Met                something holds of the support corners before some step
 --     support-after      after some steps a support corner is the start of the outline's first edge still to come, or of its first edge
 --     returns            after all steps the support corners are those before step 1
 --     meets-corner       for every u: a corner that is extreme in u is a support corner in a step in which a feature of the other outline
@@ -7,7 +6,7 @@
 --     meets-features     any two features that are extreme in u are at the support corners of one step
 use Prim.Native.Nat.{ℕ}
 use mathlib.Core.Path.{_≡_, sym, subst}
-use mathlib.Core.Logic.{_⊎_, inl, inr, ⊎-elim}
+use mathlib.Core.Logic.{inl, inr, ⊎-elim}
 use mathlib.Core.Bool.{Bool, true, false, cond}
 use mathlib.Core.List.{List, [], _∷_, _++_, append-nil, List·Memᴰ, List·Memᴰ·not-nil}
 use native.Mathlib.Omega.{arith}
@@ -20,8 +19,9 @@ use Rattle.nearest.specs.Piece.{edge}
 use Rattle.hausdorff.specs.declared.Side.{Side}
 use Rattle.hausdorff.specs.declared.Side.the-variants.{A}
 use Rattle.hausdorff.specs.Pair.{Pair, other, sameSide, stepCount}
-use Rattle.hausdorff.specs.AngularOrder.{PairEdge, direction, angularOrder, ownFirst, own, headOr}
-use Rattle.hausdorff.specs.Sweep.{Sweep, begin, passed, step, steps, after}
+use Rattle.hausdorff.specs.AngularOrder.{PairEdge, direction, angularOrder, consIf, own, headOr}
+use Rattle.hausdorff.specs.Counted.{Met}
+use Rattle.hausdorff.specs.Sweep.{Sweep, begin, step, steps, after}
 use Rattle.plane.proofs.Halves.{NonZero}
 use Rattle.plane.proofs.DirectionLaws.{along?}
 use Rattle.hausdorff.proofs.Cyclic.{Cyclic, headOr-head}
@@ -32,16 +32,12 @@ use Rattle.hausdorff.proofs.ExtremeLaws.{turned, turned-some, corner-ar
 use Rattle.hausdorff.proofs.Cut.{Cut, strict, weak, Divided, divide, CutAt, supportAt}
 use Rattle.hausdorff.proofs.Cut.{strict-support, weak-end, strict-at-support, weak-at-support}
 
-abbrev pub Met : Pair → ((Side → ℕ) → Type 0) → List PairEdge → (Side → ℕ) → Type 0
-Met pair Holds [] support = ⊥
-Met pair Holds (e ∷ es) support = Holds support ⊎ Met pair Holds es (passed pair e support)
-
 -- The support corner is the start of the first edge to come, or z where there is none, and the edges to come go round to z.
 abbrev Follows : ℕ → ℕ → ℕ → List ℕ → Type 0
 Follows n z support js = (support ≡ headOr z js) × Cyclic n z js
 
 -- So it stays when an edge is passed, one of the side's own or another.
-follows-passed : (n z support i : ℕ) (js : List ℕ) (t : Bool) → Follows n z support (ownFirst t i js)
+follows-passed : (n z support i : ℕ) (js : List ℕ) (t : Bool) → Follows n z support (consIf t i js)
     → Follows n z (cond t (next n i) support) js
 follows-passed n z support i js true (here, round) = round
 follows-passed n z support i js false follows = follows

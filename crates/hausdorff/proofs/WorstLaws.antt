@@ -1,6 +1,5 @@
 -- The worst so far of each side is the greatest gap that has been counted, under the rule for equals, or none.
 --     WorstOf            a side's worst is the preferred one of the corners that have a property, or none where none has it
---     Counts, Counted    a corner is the side's support corner, and counts; it does so in some step up to k
 --     worst-after        a side's worst so far after k steps is that of the corners that count in the steps up to k, and a true gap
 --     IsOutsideCorner    a corner of the side that is not within the other piece
 --     counted-outside    what counts is one
@@ -29,23 +28,17 @@ use Rattle.hausdorff.specs.AngularOrder.{PairEdge, angularOrder}
 use Rattle.hausdorff.specs.Counting.{isCounted}
 use Rattle.hausdorff.specs.CornerGap.{cornerGap}
 use Rattle.hausdorff.specs.Worst.{shownNumber, takesPlace, keep}
+use Rattle.hausdorff.specs.Counted.{Met, Counts, Counted}
 use Rattle.hausdorff.specs.Sweep.{Sweep, begin, measured, passed, step, steps, after}
 use Rattle.hausdorff.proofs.OrderLaws.{order-length}
 use Rattle.hausdorff.proofs.Extreme.{AtSupport}
 use Rattle.hausdorff.proofs.LowestLaws.{begins-lowest}
-use Rattle.hausdorff.proofs.SweepLaws.{Met}
 use Rattle.hausdorff.proofs.CountingLaws.{counted-iff}
 use Rattle.hausdorff.proofs.Preference.{Preferred, preferred-refl, taken-preferred, side-trans, PreferredOf}
 
 abbrev pub WorstOf : Pair → Side → (ℕ → Type 0) → WorstSoFar → Type 0
 WorstOf pair s Q None = (i : ℕ) → ¬ Q i
 WorstOf pair s Q (Worst w) = PreferredOf pair s Q w
-
-abbrev pub Counts : Pair → Side → ℕ → (Side → ℕ) → Type 0
-Counts pair s i support = (support s ≡ i) × (isCounted (pair (other s)) (support (other s)) (corner (pair s) i) ≡ true)
-
-abbrev pub Counted : Pair → Side → ℕ → ℕ → Type 0
-Counted pair s k i = Met pair (Counts pair s i) (take k (angularOrder pair)) (begin pair .support)
 
 module _ (pair : Pair) (polygons : Polygons pair) (s : Side) where
   -- only which corners it is the worst of matters, not how that is said

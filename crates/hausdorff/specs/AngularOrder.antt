@@ -6,6 +6,7 @@
 --     edgesBelow      the edges of a side with numbers below n
 --     allEdges        all edges of both outlines
 --     angularOrder    all edges by direction; at equal direction A's edge comes first
+--     consIf          a number before a list, if a test holds
 --     own             the numbers of one side's edges in a list of edges, in its order
 --     headOr          the first of a list, or another number
 use Prim.Native.Nat.{ℕ, zero, suc}
@@ -57,13 +58,13 @@ allEdges pair = edgesBelow A (edgeCount (pair A)) ++ edgesBelow B (edgeCount (pa
 unfoldable pub angularOrder : Pair → List PairEdge
 angularOrder pair = sort (precedes pair) (allEdges pair)
 
-abbrev pub ownFirst : Bool → ℕ → List ℕ → List ℕ
-ownFirst true i is = i ∷ is
-ownFirst false i is = is
+abbrev pub consIf : Bool → ℕ → List ℕ → List ℕ
+consIf true i is = i ∷ is
+consIf false i is = is
 
 unfoldable pub own : Side → List PairEdge → List ℕ
 own s [] = []
-own s (e ∷ es) = ownFirst (sameSide s (e .side)) (e .number) (own s es)
+own s (e ∷ es) = consIf (sameSide s (e .side)) (e .number) (own s es)
 
 -- the first of a list, or z
 abbrev pub headOr : ℕ → List ℕ → ℕ

@@ -1,10 +1,14 @@
 -- Document 01, "Gap of one corner": the answer, from the nearest relation alone. It cites neither the steps nor the exhaustive search.
 --     IsGap       a corner of one outline with its feature, gap and nearest point in the other
 --     NotLater    A's corners come before B's, and then lower numbers
---     IsAnswer    the greatest gap over all corners of both, the first of equals. Its gap is the true figure
+--     Leads       w is one of some gaps, the greatest of these, and the first of equals
+--     IsAnswer    it leads among all
+--     TrueFigure  the greatest gap over all corners of both
 -- `proofs/AnswerLaws.antt` shows that there is one answer, and that it is A's corner 0, within, if every gap is zero.
 use Prim.Native.Nat.{ℕ, _<_, _≤_}
+use mathlib.Core.Path.{_≡_}
 use lib.ListN.{length}
+use Rattle.integers.specs.declared.fraction.Fraction.{Fraction}
 use Rattle.integers.specs.Fraction.{NotGreater}
 use Rattle.outline.specs.Corners.{corner}
 use Rattle.nearest.specs.Nearest.{Answers}
@@ -24,7 +28,17 @@ NotLater A i B j = Unit {0}
 NotLater B i A j = ⊥
 NotLater B i B j = i ≤ j
 
-pub record IsAnswer (pair : Pair) (w : CornerGap) : Type 0 where
+pub record Leads (pair : Pair) (Among : CornerGap → Type 0) (w : CornerGap) : Type 0 where
   pub is-gap : IsGap pair w
-  pub greatest : (z : CornerGap) → IsGap pair z → NotGreater (z .gap) (w .gap)
-  pub first-of-equals : (z : CornerGap) → IsGap pair z → NotGreater (w .gap) (z .gap) → NotLater (w .side) (w .corner) (z .side) (z .corner)
+  pub among : Among w
+  pub greatest : (z : CornerGap) → IsGap pair z → Among z → NotGreater (z .gap) (w .gap)
+  pub first-of-equals : (z : CornerGap) → IsGap pair z → Among z → NotGreater (w .gap) (z .gap)
+      → NotLater (w .side) (w .corner) (z .side) (z .corner)
+
+-- the greatest gap over all corners of both, A's corners before B's and then lower numbers where gaps are equal as values
+abbrev pub IsAnswer : Pair → CornerGap → Type 0
+IsAnswer pair w = Leads pair (λ z. Unit {0}) w
+
+pub record TrueFigure (pair : Pair) (g : Fraction) : Type 0 where
+  pub reached : (z : CornerGap) × IsGap pair z × (z .gap ≡ g)
+  pub greatest : (z : CornerGap) → IsGap pair z → NotGreater (z .gap) g

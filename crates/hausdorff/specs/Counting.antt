@@ -1,4 +1,4 @@
--- Document 01: when a corner counts, seen from the other outline, cs, whose support corner is b.
+-- Document 01: when a corner counts, seen from the other outline, cs, whose support corner (document 01: corner in touch) is b.
 --     isSame       the test whether two points are the same
 --     liesOn       a point lies on edge i, its ends included
 --     liesAt       a point is corner b or lies on one of the two edges that meet there, ends included

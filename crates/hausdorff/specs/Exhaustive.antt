@@ -1,5 +1,5 @@
 -- Document 01: the trial, an exhaustive search. It is fed the corners of A and B, and nothing from the sweep, nor the definition `nearest`.
---     tried         what is found for corner i of a side, by trying every corner and edge of the other outline (`search`)
+--     searched      what is found for corner i of a side, by trying every corner and edge of the other outline (`search`)
 --     tryCorners    the worst, after the corners of a side below n: a later corner takes its place only if its gap is greater as a value
 --     exhaustive    A's corners by number, then B's; the worst is A's corner 0 at first
 use Prim.Native.Nat.{ℕ, zero, suc}
@@ -12,12 +12,12 @@ use Rattle.hausdorff.specs.declared.CornerGap.{CornerGap}
 use Rattle.hausdorff.specs.Pair.{Pair, other}
 use Rattle.hausdorff.specs.CornerGap.{named, worse}
 
-abbrev pub tried : Pair → Side → ℕ → CornerGap
-tried pair s i = named s i (search (pair (other s)) (corner (pair s) i))
+abbrev pub searched : Pair → Side → ℕ → CornerGap
+searched pair s i = named s i (search (pair (other s)) (corner (pair s) i))
 
 unfoldable pub tryCorners : Pair → Side → CornerGap → ℕ → CornerGap
 tryCorners pair s worst zero = worst
-tryCorners pair s worst (suc n) = worse (tryCorners pair s worst n) (tried pair s n)
+tryCorners pair s worst (suc n) = worse (tryCorners pair s worst n) (searched pair s n)
 
 abbrev pub exhaustive : Pair → CornerGap
-exhaustive pair = tryCorners pair B (tryCorners pair A (tried pair A 0) (length (pair A))) (length (pair B))
+exhaustive pair = tryCorners pair B (tryCorners pair A (searched pair A 0) (length (pair A))) (length (pair B))

@@ -8,5 +8,6 @@ pub mod AngularOrder
 pub mod Counting
 pub mod Worst
 pub mod Sweep
+pub mod Counted
 pub mod Report
 pub mod Law

@@ -6,7 +6,7 @@
 --     edgeCount       the number of edges of an outline, one from each corner
 --     stepCount       document 01's N, the number of edges of both
 --     AcceptedPair    both outlines are accepted
---     Polygons        both are polygons, of any range and count: what the laws of geometry ask
+--     Polygons        both are polygons: strictly convex, of three corners or more and any range; what the laws of geometry ask
 use Prim.Native.Nat.{ℕ, _+_}
 use mathlib.Core.Bool.{Bool, true, false}
 use mathlib.Core.List.{List}

@@ -1,8 +1,8 @@
 -- Document 01: what a comparison of two accepted outlines gives for a step allowance.
 --     IsClearance    the clearance figure of a gap: the largest whole number whose square is not above it
 --     clearance      that number
---     firstWithin    A's corner 0, within
---     orFirstWithin  a worst so far, or that
+--     zeroWithin    A's corner 0, within
+--     orZeroWithin  a worst so far, or that
 --     answer         the worst so far after step N, or A's corner 0, within, if that is none
 --     spent, done    the two reports
 --     report         spent if the allowance is below N, otherwise done
@@ -20,7 +20,7 @@ use Rattle.hausdorff.specs.declared.WorstSoFar.the-variants.{None, Worst
 use Rattle.hausdorff.specs.declared.Spent.{Spent}
 use Rattle.hausdorff.specs.declared.Done.{Done}
 use Rattle.hausdorff.specs.declared.Report.{Report}
-use Rattle.hausdorff.specs.declared.Report.the-variants.{Spent as IsSpent, Done as IsDone}
+use Rattle.hausdorff.specs.declared.Report.the-variants.{Spent as ReportSpent, Done as ReportDone}
 use Rattle.hausdorff.specs.Pair.{Pair, stepCount}
 use Rattle.hausdorff.specs.CornerGap.{named}
 use Rattle.hausdorff.specs.Sweep.{after, worstSoFar}
@@ -32,17 +32,17 @@ IsClearance g m = FloorRoot g m
 abbrev pub clearance : Fraction → ℕ
 clearance g = root (g .upper / g .lower)
 
-abbrev pub firstWithin : Pair → CornerGap
-firstWithin pair = named A 0 (withinValues (corner (pair A) 0))
+abbrev pub zeroWithin : Pair → CornerGap
+zeroWithin pair = named A 0 (withinValues (corner (pair A) 0))
 
-abbrev pub orFirstWithin : Pair → WorstSoFar → CornerGap
-orFirstWithin pair None = firstWithin pair
-orFirstWithin pair (Worst w) = w
+abbrev pub orZeroWithin : Pair → WorstSoFar → CornerGap
+orZeroWithin pair None = zeroWithin pair
+orZeroWithin pair (Worst w) = w
 
 abbrev pub answer : Pair → CornerGap
-answer pair = orFirstWithin pair (worstSoFar pair (stepCount pair))
+answer pair = orZeroWithin pair (worstSoFar pair (stepCount pair))
 
--- the steps made (equal to the allowance), both support corners, and the worst so far or none
+-- the steps made (equal to the allowance), both support corners (document 01: corners in touch), and the worst so far or none
 abbrev pub spent : Pair → ℕ → Spent
 spent pair allowance = record {
   steps = allowance;
@@ -55,4 +55,4 @@ abbrev pub done : Pair → Done
 done pair = record { steps = stepCount pair; answer = answer pair; clearance = clearance (answer pair .gap) }
 
 unfoldable pub report : Pair → ℕ → Report
-report pair allowance = cond (ltb allowance (stepCount pair)) (IsSpent (spent pair allowance)) (IsDone (done pair))
+report pair allowance = cond (ltb allowance (stepCount pair)) (ReportSpent (spent pair allowance)) (ReportDone (done pair))

@@ -26,8 +26,8 @@ pub record Sweep : Type 0 where
   pub support : Side → ℕ
   pub worst : Side → WorstSoFar
 
--- the support corner of each outline is the start of its own first edge in the order: edge i starts at corner i. Each outline has an edge;
--- 0 stands for none
+-- the support corner of each outline is the start of its own first edge in the order: edge i starts at corner i. 0 is never
+-- taken for want of an edge, since each outline has one
 unfoldable pub begin : Pair → Sweep
 begin pair = record { support = λ s. headOr 0 (own s (angularOrder pair)); worst = λ s. None }
 

@@ -1,5 +1,5 @@
-// The Hausdorff distance of two outlines: what a comparison by steps reports. `specs/` defines the steps and the figure, and `proofs/`
-// shows that the steps find it (`proofs/Law.antt`).
+// The Hausdorff distance of two outlines: what a comparison by steps reports. `specs/` defines the steps and the distance, and
+// `proofs/` shows that the steps find it (`proofs/Law.antt`).
 use integers::fraction::Fraction;
 use nearest::Feature;
 use plane::Point;
