@@ -1,6 +1,6 @@
 -- Document 01, demand 3: the one law about what comparing reports, for every accepted pair and every allowance.
---     Law    what `result`, the report for an allowance, is and holds. The first two parts determine it; the next are about the answer, which
---            is reported when done, and the last about the worst so far, which is reported when spent
+--     Law    what `result`, the report for an allowance, is and holds. The first two parts determine it; the next are about the answer,
+--            which is reported when done, and the last about the worst so far, which is reported when spent
 use Prim.Native.Nat.{ℕ, _<_, _≤_}
 use mathlib.Core.Path.{_≡_}
 use Rattle.integers.specs.declared.fraction.Fraction.{Fraction}
