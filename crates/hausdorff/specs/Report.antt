@@ -1,8 +1,8 @@
 -- Document 01: what a comparison of two accepted outlines gives for a step allowance.
 --     IsClearance    the clearance figure of a gap: the largest whole number whose square is not above it
 --     clearance      that number
---     zeroWithin    A's corner 0, within
---     orZeroWithin  a worst so far, or that
+--     zeroWithin     A's corner 0, within
+--     orZeroWithin   a worst so far, or that
 --     answer         the worst so far after step N, or A's corner 0, within, if that is none
 --     spent, done    the two reports
 --     report         spent if the allowance is below N, otherwise done

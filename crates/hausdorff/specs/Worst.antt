@@ -1,6 +1,5 @@
 -- Document 01: the worst so far. One is kept for each side; document 01's is the worse of the two (`overall`).
---     shownNumber   the number that a corner is listed under, by which equals are told apart: its own. A parameter of the rule, so that
---                   corners may later be held in another order than they are listed
+--     shownNumber   the number that a corner is listed under, by which the rule tells equals apart: its own
 --     takesPlace    a corner takes the place of another of its side: its gap is greater, or equal and its shown number lower
 --     keep          the worst so far of a side, with what a step adds
 --     overall       the worse of A's and B's; A's where their gaps are equal
