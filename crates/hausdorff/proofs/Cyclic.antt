@@ -18,7 +18,7 @@ use Rattle.plane.specs.declared.Vector.{Vector}
 use Rattle.outline.specs.Corners.{next}
 use Rattle.outline.proofs.CornersLaws.{next-below, next-other}
 use Rattle.hausdorff.specs.AngularOrder.{headOr}
-use Rattle.plane.proofs.DirectionLaws.{Before, before-asym, before-trans}
+use Rattle.plane.proofs.DirectionLaws.{Before, before-asym, before-trans, before-irrefl}
 use Rattle.hausdorff.proofs.GoesRound.{GoesRound}
 
 abbrev pub Rising : (ℕ → Vector) → List ℕ → Type 0
@@ -63,7 +63,7 @@ followed n z (j ∷ (k ∷ front)) rest i (follows, round) there last =
 module _ {n : ℕ} {d : ℕ → Vector} (round : GoesRound n d) where
   -- No direction comes before itself.
   same-not-before : (i j : ℕ) → i ≡ j → ¬ Before (d i) (d j)
-  same-not-before i j same before = let itself : Before (d j) (d j) = rw same at before in before-asym (d j) (d j) itself itself
+  same-not-before i j same before = before-irrefl (d j) (rw same at before)
 
   -- Numbers of which neither comes before the other are one.
   neither-before : (i j : ℕ) → i < n → j < n → ¬ Before (d i) (d j) → ¬ Before (d j) (d i) → i ≡ j

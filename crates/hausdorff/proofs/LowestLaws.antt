@@ -4,12 +4,12 @@
 use Prim.Native.Nat.{ℕ, _<_}
 use mathlib.Core.Path.{_≡_, refl, sym, _∙_}
 use mathlib.Core.Logic.{_⊎_, inl, inr, _↔_, _≢_}
-use mathlib.Core.Bool.{true, false}
+use mathlib.Core.Bool.{false}
 use mathlib.Core.List.{List, [], _∷_, List·Memᴰ, List·Memᴰ·head, List·Memᴰ·not-nil, List·Memᴰ·cases-cons, Pairwise, rel-of-pairwise-cons}
 use native.Mathlib.Omega.{arith}
 use lib.IntN.{pos}
 use lib.ListN.{length}
-use lib.Signed.{_≤ℤ_, _<ℤ_, ≤ℤ-refl}
+use lib.Signed.{_≤ℤ_, _<ℤ_}
 use Rattle.integers.proofs.Order.{≤ℤ-or-<ℤ, <ℤ-≤ℤ, ≤ℤ-antisym}
 use Rattle.integers.proofs.Polynomial.{⊝_}
 use Rattle.integers.proofs.Certificate.{_≺_, _≼_, _≗_, hyp, eqn, _⊞_, _⊠_, prove}
@@ -26,7 +26,7 @@ use Rattle.hausdorff.specs.declared.Side.{Side}
 use Rattle.hausdorff.specs.Pair.{Pair, Polygons}
 use Rattle.hausdorff.specs.AngularOrder.{angularOrder, own, headOr}
 use Rattle.hausdorff.specs.Sweep.{begin}
-use Rattle.plane.proofs.Halves.{Half, half}
+use Rattle.plane.proofs.Halves.{Half, half, first-up}
 use Rattle.plane.proofs.DirectionLaws.{Before, across}
 use Rattle.hausdorff.proofs.OrderLaws.{polygons-go-round, own-members, own-rising}
 
@@ -40,13 +40,9 @@ falls : (e f : Vector) → pos 0 <ℤ cross e f → Before f e → (e .y <ℤ po
 unfolding cross
 falls e f turn before =
     let (first, second) = across f e before (cross-back e f .0 (<ℤ-≤ℤ turn)) in
-    let up = rising (rw first at (half f)) in
+    let up = first-up f (rw first at (half f)) in
     (falling up (rw second at (half e)), up)
   where
-    rising : Half true f → pos 0 ≤ℤ f .y
-    rising (inl up) = <ℤ-≤ℤ up
-    rising (inr (level, _)) = rw level (≤ℤ-refl (pos 0))
-
     -- if e were level, f would be right of it
     falling : pos 0 ≤ℤ f .y → Half false e → e .y <ℤ pos 0
     falling up (inl down) = down

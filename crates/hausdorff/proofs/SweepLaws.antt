@@ -1,17 +1,18 @@
 -- The sweep meets what is extreme in one direction.
+--     after-step         the step after k steps passes the k-th edge of the order, counted from 0
 --     support-after      after some steps a support corner is the start of the outline's first edge still to come, or of its first edge
 --     returns            after all steps the support corners are those before step 1
 --     meets-corner       for every u: a corner that is extreme in u is a support corner in a step in which a feature of the other outline
 --                        that is extreme in u is at the other support corner
 --     meets-features     any two features that are extreme in u are at the support corners of one step
-use Prim.Native.Nat.{ℕ}
-use mathlib.Core.Path.{_≡_, sym, subst}
+use Prim.Native.Nat.{ℕ, suc, _<_}
+use mathlib.Core.Path.{_≡_, refl, sym, subst}
 use mathlib.Core.Logic.{inl, inr, ⊎-elim}
 use mathlib.Core.Bool.{Bool, true, false, cond}
 use mathlib.Core.List.{List, [], _∷_, _++_, append-nil, List·Memᴰ, List·Memᴰ·not-nil}
 use native.Mathlib.Omega.{arith}
-use lib.ListN.{length}
-use lib.Seq.{take-length}
+use lib.ListN.{length, take, getD}
+use lib.Seq.{take-length, take-suc}
 use Rattle.plane.specs.declared.Vector.{Vector}
 use Rattle.outline.specs.Corners.{next, previous}
 use Rattle.nearest.specs.declared.Feature.{Feature}
@@ -31,6 +32,20 @@ use Rattle.hausdorff.proofs.Extreme.{ExtremeCorner, ExtremeFeature, AtS
 use Rattle.hausdorff.proofs.ExtremeLaws.{turned, turned-some, corner-around}
 use Rattle.hausdorff.proofs.Cut.{Cut, strict, weak, Divided, divide, CutAt, supportAt}
 use Rattle.hausdorff.proofs.Cut.{strict-support, weak-end, strict-at-support, weak-at-support}
+
+-- Steps are made one after the other.
+steps-append : (pair : Pair) (front rest : List PairEdge) (sweep : Sweep)
+    → steps pair (front ++ rest) sweep ≡ steps pair rest (steps pair front sweep)
+unfolding steps
+steps-append pair [] rest sweep = refl
+steps-append pair (e ∷ front) rest sweep = steps-append pair front rest (step pair e sweep)
+
+-- `none` stands for an edge past the end of the order
+pub after-step : (pair : Pair) (k : ℕ) (none : PairEdge) → k < stepCount pair
+    → after pair (suc k) ≡ step pair (getD (angularOrder pair) k none) (after pair k)
+unfolding steps
+after-step pair k none below =
+    rw (take-suc (angularOrder pair) k none (rw (order-length pair) below)) (steps-append pair (take k (angularOrder pair)) _ (begin pair))
 
 -- The support corner is the start of the first edge to come, or z where there is none, and the edges to come go round to z.
 abbrev Follows : ℕ → ℕ → ℕ → List ℕ → Type 0
@@ -131,8 +146,8 @@ module _ (pair : Pair) (rounds : Rounds pair) where
         ))
         (along? (edge (pair s) (previous (length (pair s)) i)) t)
 
-    -- Two corners are not always the support corners of one step: of two parallel edges with t's direction A's is passed first, so the
-    -- start of A's and the end of B's never are. This is why a feature is only asked to be at the support corner.
+    -- Two corners need not be the support corners of one step: of two parallel edges with t's direction A's is passed first, so when B's is
+    -- passed A's support corner has left the start of A's. This is why a feature is only asked to be at the support corner.
     pub meets-features : (s : Side) (f g : Feature) → ExtremeFeature (pair s) u f → ExtremeFeature (pair (other s)) u g
         → Met pair (λ support. AtSupport (length (pair s)) (support s) f × AtSupport (length (pair (other s))) (support (other s)) g)
         (angularOrder pair) (begin pair .support)

@@ -5,6 +5,7 @@
 --     Around                       t lies from e counterclockwise to f, less than a whole turn
 --     Across, across               d is in the first half and e in the second; so it is where d comes before e, which is not left of it
 --     before-asym, before-irrefl   no two directions come before each other, and none before itself
+--     axis-first                   none comes before the positive x axis
 --     before-split, before-trans   where d comes before f, any third direction comes after d or before f; so the order is transitive
 --     same-iff, along-iff          directions are the same exactly where they are along, which is on one line and the same way
 --     along-apart                  f does not have t's direction where e has it and f another than e
@@ -20,14 +21,14 @@ use borrow.Author.Tests.{not-true}
 use lib.IntN.{pos}
 use lib.Signed.{_≤ℤ_, _<ℤ_, <ℤ-irrefl, clashℤ}
 use Rattle.integers.proofs.Order.{ltZ-true, <ℤ-ltZ, <ℤ-≤ℤ, ≤ℤ-or-<ℤ, ≰ℤ-<ℤ, ≮ℤ-≤ℤ, ≤ℤ-antisym}
-use Rattle.integers.proofs.Polynomial.{Expr}
+use Rattle.integers.proofs.Polynomial.{Expr, var, lit}
 use Rattle.integers.proofs.Certificate.{Claim, _≺_, _≼_, Cert, hyp, _⊞_, _⊠_, refute}
 use Rattle.integers.proofs.Reflect.{test-and, test-or, test-eqZ}
 use Rattle.plane.specs.declared.Vector.{Vector}
 use Rattle.plane.specs.Vector.{cross, dot}
 use Rattle.plane.specs.Direction.{isFirstHalf, isBefore, sameHalf, sameDirection}
 use Rattle.plane.proofs.Algebra.{O, vec, crossE, components, cross-swap, cross-back, turn-length, cross-length}
-use Rattle.plane.proofs.Halves.{NonZero, Sign, Reference, reference, line-halves}
+use Rattle.plane.proofs.Halves.{NonZero, half, first-up, Sign, Reference, reference, line-halves}
 
 abbrev pub Before : Vector → Vector → Type 0
 Before d e = isBefore d e ≡ true
@@ -155,6 +156,14 @@ before-asym d e before back = elim (before-iff d e .0 before) [
 
 pub before-irrefl : (d : Vector) → ¬ Before d d
 before-irrefl d itself = before-asym d d itself itself
+
+-- document 01: the angle is from the positive x axis. What comes before it would be in the first half and fall
+pub axis-first : (d : Vector) → ¬ Before d (record { x = pos 1; y = pos 0 })
+unfolding cross isFirstHalf
+axis-first d before =
+    let (same, left) = within-first d (record { x = pos 1; y = pos 0 }) before refl in
+    refute (d .x ∷ d .y ∷ []) (O ≺ crossE (vec 0) (record { x = lit (pos 1); y = O }) ∷ O ≼ var 1 ∷ []) (hyp 0 ⊞ hyp 1) tt
+    left (first-up d (rw same at (half d)))
 
 -- if all three are of one half, e is left of d or has f on its left
 pub before-split : (d e f : Vector) → NonZero e → Before d f → Before d e ⊎ Before e f

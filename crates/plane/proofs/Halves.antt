@@ -2,6 +2,7 @@
 -- is one just before the positive x axis that has those of the first half on its left and the others on its right.
 --     NonZero                  a vector is not 0
 --     Half, half               what the test `isFirstHalf` says
+--     first-up                 a vector of the first half does not fall
 --     Sign                     above 0 for the first half, below for the second
 --     Reference, reference     a vector whose cross products have the signs of three vectors' halves
 --     line-halves              two vectors on one line are in the same half exactly where they point the same way
@@ -10,9 +11,9 @@ use mathlib.Core.Logic.{_⊎_, inl, inr, _↔_}
 use mathlib.Core.Bool.{Bool, true, false, _&&_, _||_, true≢false, false≢true}
 use mathlib.Core.List.{List, [], _∷_}
 use lib.IntN.{ℤ, pos, negsuc, _*ℤ_}
-use lib.Signed.{_≤ℤ_, _<ℤ_, ltZ}
+use lib.Signed.{_≤ℤ_, _<ℤ_, ltZ, ≤ℤ-refl}
 use Rattle.integers.specs.Equal.{eqZ}
-use Rattle.integers.proofs.Order.{ltZ-true, ltZ-false, ≰ℤ-<ℤ, ≤ℤ-antisym}
+use Rattle.integers.proofs.Order.{ltZ-true, ltZ-false, <ℤ-≤ℤ, ≰ℤ-<ℤ, ≤ℤ-antisym}
 use Rattle.integers.proofs.Polynomial.{Expr, var, lit, ⊝_, _⊕_, _⊖_, _⊗_, eval}
 use Rattle.integers.proofs.Certificate.{Claim, _≺_, _≼_, _≗_, hyp, tight, num, sq, eqn, _⊞_, _⊠_, prove, refute}
 use Rattle.integers.proofs.Reflect.{test-eqZ, test-false}
@@ -40,6 +41,10 @@ half d = go (ltZ (pos 0) (d .y)) (eqZ (d .y) (pos 0)) (ltZ (pos 0) (d .x)) refl 
     go false true false _ level left = inr (test-eqZ (d .y) (pos 0) .0 level, ltZ-false left)
     go false false _ down other _ =
         inl (≰ℤ-<ℤ (λ up. test-false _ (test-eqZ (d .y) (pos 0)) .0 other (≤ℤ-antisym (ltZ-false down) up)))
+
+pub first-up : (d : Vector) → Half true d → pos 0 ≤ℤ d .y
+first-up d (inl up) = <ℤ-≤ℤ up
+first-up d (inr (level, _)) = rw level (≤ℤ-refl (pos 0))
 
 abbrev pub Sign : Bool → ℤ → Type 0
 Sign true z = pos 0 <ℤ z
