@@ -1,4 +1,6 @@
 // The public calls. Each may be handed any list of any numbers: it does its own checking and has no `requires`.
+use hausdorff::Comparison;
+use hausdorff::Report;
 use nearest::NearestAnswer;
 use outline::Check;
 use outline::Fault;
@@ -12,6 +14,7 @@ ghost use Rattle.outline.specs.declared.RefusedSide.the-variants.{NoSide};
 ghost use Rattle.outline.specs.Reading.{reading};
 ghost use Rattle.edit.specs.Removal.{removalVerdict, listAfter};
 ghost use Rattle.nearest.specs.Call.{nearestAnswer};
+ghost use Rattle.hausdorff.specs.Call.{comparison, Compares};
 
 // Reads the outline that the list `s` gives: x and y of corner 0, then of corner 1, and so on.
 // Refusals 1 to 6; the outline read then has no corners.
@@ -49,4 +52,26 @@ pub fn nearest_point(v: Corner, s: &[i32]) -> NearestAnswer
         return NearestAnswer::Refused(refusals::refusal(RefusedSide::NoSide, fault));
     }
     NearestAnswer::Found(nearest::nearest(reading.outline, v))
+}
+
+// Compares the outlines that the lists `a` and `b` give, in at most `allowance` steps.
+// Refusals 1 to 6 for A, then 1 to 6 for B. Being spent is no refusal.
+pub fn compare(a: &[i32], b: &[i32], allowance: u32) -> Comparison
+    ensures answer { λ r. ⌜ r ≡ comparison (now (a .entry)) (now (b .entry)) allowance ⌝ }
+    ensures law { λ r. ⌜ Compares (now (a .entry)) (now (b .entry)) allowance r ⌝ }
+{
+    let reada = outline::read(a, RefusedSide::A);
+    let verdicta = reada.verdict;
+    if let Verdict::Refused(refusal) = verdicta {
+        return Comparison::Refused(refusal);
+    }
+    let readb = outline::read(b, RefusedSide::B);
+    let verdictb = readb.verdict;
+    if let Verdict::Refused(refusal) = verdictb {
+        return Comparison::Refused(refusal);
+    }
+    match sweep::compare(reada.outline, readb.outline, allowance) {
+        Report::Spent(spent) => Comparison::Spent(spent),
+        Report::Done(done) => Comparison::Done(done),
+    }
 }

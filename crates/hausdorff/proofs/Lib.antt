@@ -19,3 +19,4 @@ pub mod OverallWorst
 pub mod SideWorst
 pub mod AnswerLaws
 pub mod Law
+pub mod CallLaws

@@ -1,4 +1,4 @@
--- Document 01, "Gap of one corner" and "The sweep".
+-- Document 01, "Gap of one corner" and "The sweep", and what comparing two lists gives.
 pub mod Pair
 pub mod CornerGap
 pub mod Answer
@@ -11,3 +11,4 @@ pub mod Sweep
 pub mod Counted
 pub mod Report
 pub mod Law
+pub mod Call

@@ -2,6 +2,7 @@
 // `proofs/` shows that the steps find it (`proofs/Law.antt`).
 use integers::fraction::Fraction;
 use nearest::Feature;
+use outline::Refusal;
 use plane::Point;
 
 // One of the two outlines that are compared.
@@ -47,6 +48,13 @@ pub struct Done {
 
 // What comparing two accepted outlines reports.
 pub enum Report {
+    Spent(Spent),
+    Done(Done),
+}
+
+// What comparing two lists gives. Being spent is no refusal.
+pub enum Comparison {
+    Refused(Refusal),
     Spent(Spent),
     Done(Done),
 }

@@ -1,20 +1,21 @@
--- Laws of the order of fractions, over plain natural numbers.
---     Means o x y        what the answer o says of x and y
---     order-iff          `order x y` is Less exactly when x < y, Equal exactly when x ≡ y, Greater exactly when y < x;
---                        its two halves are order-means and order-unique
---     swap, order-swap   exchanging the two numbers exchanges Less and Greater
---     order-shift        adding one number to both changes nothing
---     then, order-parts  the key: whole parts, and then the remainders' products, decide as the cross products do
---     remainder-fits     a remainder times a lower number fits 64 bits
+-- Laws of the order of fractions, and of the digits that decide it, over plain natural numbers.
+--     Means o x y            what the answer o says of x and y
+--     order-iff              `order x y` is Less exactly when x < y, Equal exactly when x ≡ y, Greater exactly when y < x;
+--                            its two halves are order-means and order-unique
+--     swap, order-swap       exchanging the two numbers exchanges Less and Greater
+--     then, order-digits     the key: two numbers' digits in base 2^32, the high ones first, decide as the numbers do
+--     product-digits         the digits of a product, as `product` computes them
+--     low-fits, high-fits    what it computes fits 64 bits
 use mathlib.Core.Path.{_≡_, refl, sym, subst}
 use mathlib.Core.Logic.{_↔_}
 use Prim.Native.Nat.{ℕ, _+_, _-_, _*_, _/_, _%_, _^_, _<_}
-use native.Mathlib.Nat.{add-mul, div-add-mod', div-lt-iff-lt-mul, div-mul-le-self, le-of-lt, lt-of-le-of-lt, lt-of-lt-of-le, lt-trans, mod-lt, mul-le-mul-right, mul-lt-mul-of-pos-left, mul-lt-mul-of-pos-right, mul-right-comm}
+use native.Mathlib.Nat.{add-mul, div-add-mod', mod-lt, mul-le-mul-right}
 use native.Mathlib.Omega.{arith}
 use native.Mathlib.Decide.{decLt}
 use borrow.Author.Tests.{lt-ltb, le-ltb}
 use lib.Dec.{lit<}
 use Rattle.integers.specs.Fraction.{order}
+use Rattle.integers.specs.declared.fraction.Digits.{Digits}
 use Rattle.integers.specs.declared.fraction.Order.{Order}
 use Rattle.integers.specs.declared.fraction.Order.the-variants.{Less, Equal, Greater}
 
@@ -69,46 +70,48 @@ order-swap x y = go (order x y) (order-means x y)
     go Equal h = order-unique Equal y x (sym h)
     go Greater h = order-unique Less y x h
 
-pub order-shift : (k x y : ℕ) → order (k + x) (k + y) ≡ order x y
-order-shift k x y = go (order x y) (order-means x y)
-  where
-    go : (o : Order) → Means o x y → order (k + x) (k + y) ≡ o
-    go Less h = order-unique Less _ _ (omega arith)
-    go Equal h = order-unique Equal _ _ (omega arith)
-    go Greater h = order-unique Greater _ _ (omega arith)
-
 -- The second answer counts only where the first is Equal.
 abbrev pub then : Order → Order → Order
 then Less o = Less
 then Equal o = o
 then Greater o = Greater
 
--- A smaller whole part makes a smaller fraction: n1 < (n2 / d2) * d1, and (n2 / d2) * d2 ≤ n2.
-whole-less : (n1 d1 n2 d2 : ℕ) → 0 < d1 → 0 < d2 → n1 / d1 < n2 / d2 → n1 * d2 < n2 * d1
-whole-less n1 d1 n2 d2 p1 p2 h =
-    lt-of-lt-of-le (mul-lt-mul-of-pos-right (div-lt-iff-lt-mul p1 .0 h) p2)
-    (rw (mul-right-comm (n2 / d2) d1 d2) (mul-le-mul-right d1 (div-mul-le-self n2 d2)))
-
--- A cross product is the share of the whole part and that of the remainder.
-cross-split : (n d e : ℕ) → n * e ≡ n / d * d * e + n % d * e
-cross-split n d e = rw (← add-mul, div-add-mod' n d)
-
--- The key. A cross product may need 96 bits, and this law is why none is ever computed: the right side has quotients, and products
--- of a remainder and a lower number, which fit 64. Where the whole parts are equal, both cross products hold the same share of
--- them, and only the remainders' shares are left to compare.
-pub order-parts :
-    (n1 d1 n2 d2 : ℕ) → 0 < d1 → 0 < d2 →
-    order (n1 * d2) (n2 * d1) ≡ then (order (n1 / d1) (n2 / d2)) (order (n1 % d1 * d2) (n2 % d2 * d1))
-order-parts n1 d1 n2 d2 p1 p2 = go (order (n1 / d1) (n2 / d2)) (order-means (n1 / d1) (n2 / d2))
+-- The key. A cross product may need 96 bits, and this law is why it need not be held in one number: high digits that differ decide, and
+-- where they are equal only the low digits are left to compare.
+pub order-digits : (m n : ℕ) → order m n ≡ then (order (m / 2 ^ 32) (n / 2 ^ 32)) (order (m % 2 ^ 32) (n % 2 ^ 32))
+order-digits m n = by-high (order (m / 2 ^ 32) (n / 2 ^ 32)) (order-means _ _)
   where
-    go :
-        (o : Order) → Means o (n1 / d1) (n2 / d2) →
-        order (n1 * d2) (n2 * d1) ≡ then o (order (n1 % d1 * d2) (n2 % d2 * d1))
-    go Less h = order-unique Less _ _ (whole-less n1 d1 n2 d2 p1 p2 h)
-    go Equal h =
-        rw (cross-split n1 d1 d2, cross-split n2 d2 d1, h, mul-right-comm (n2 / d2) d1 d2) (order-shift _ _ _)
-    go Greater h = order-unique Greater _ _ (whole-less n2 d2 n1 d1 p2 p1 h)
+    by-low : m / 2 ^ 32 ≡ n / 2 ^ 32 → (o : Order) → Means o (m % 2 ^ 32) (n % 2 ^ 32) → order m n ≡ o
+    by-low same Less h = order-unique Less m n (omega arith)
+    by-low same Equal h = order-unique Equal m n (omega arith)
+    by-low same Greater h = order-unique Greater m n (omega arith)
 
-pub remainder-fits : (n : ℕ) {d e : ℕ} → 0 < d → d < 2 ^ 32 → e < 2 ^ 32 → n % d * e < 2 ^ 64
-remainder-fits n {d} {e} p hd he =
-    lt-of-le-of-lt (mul-le-mul-right e (le-of-lt (lt-trans (mod-lt n p) hd))) (mul-lt-mul-of-pos-left he (lit< tt))
+    by-high : (o : Order) → Means o (m / 2 ^ 32) (n / 2 ^ 32) → order m n ≡ then o (order (m % 2 ^ 32) (n % 2 ^ 32))
+    by-high Less h = order-unique Less m n (omega arith)
+    by-high Equal h = by-low h _ (order-means _ _)
+    by-high Greater h = order-unique Greater m n (omega arith)
+
+-- The product of two digits fits 64 bits, with room for a carry.
+digit-fits : {d e : ℕ} → d < 2 ^ 32 → e < 2 ^ 32 → d * e + 2 ^ 32 < 2 ^ 64
+digit-fits {d} {e} hd he = omega (arith, mul-le-mul-right e hd)
+
+-- The low digit's share of a product fits,
+pub low-fits : (x : ℕ) {y : ℕ} → y < 2 ^ 32 → x % 2 ^ 32 * y < 2 ^ 64
+low-fits x small = omega (arith, digit-fits (mod-lt x (lit< tt)) small)
+
+-- and so does the high digit's, with what the other carries.
+pub high-fits : {x y : ℕ} → x < 2 ^ 64 → y < 2 ^ 32 → x / 2 ^ 32 * y + x % 2 ^ 32 * y / 2 ^ 32 < 2 ^ 64
+high-fits {x} fits small =
+    let top : x / 2 ^ 32 < 2 ^ 32 = omega arith in
+    omega (arith, digit-fits top small, low-fits x small)
+
+-- x * y is the high digit's share times 2^32 and the low digit's share, whose own high digit is carried.
+pub product-digits :
+    (x y : ℕ) →
+    _≡_ {A = Digits} record { high = x / 2 ^ 32 * y + x % 2 ^ 32 * y / 2 ^ 32; low = x % 2 ^ 32 * y % 2 ^ 32 }
+    record { high = x * y / 2 ^ 32; low = x * y % 2 ^ 32 }
+product-digits x y =
+    let shares : x * y ≡ x / 2 ^ 32 * 2 ^ 32 * y + x % 2 ^ 32 * y = rw (← add-mul, div-add-mod' x (2 ^ 32)) in
+    let high : x / 2 ^ 32 * y + x % 2 ^ 32 * y / 2 ^ 32 ≡ x * y / 2 ^ 32 = omega arith in
+    let low : x % 2 ^ 32 * y % 2 ^ 32 ≡ x * y % 2 ^ 32 = omega arith in
+    rw (high, low)

@@ -2,6 +2,7 @@
 -- one number (`leZ-+ℤ`); most of the rest follows from that.
 --   leZ-true leZ-false ltZ-true ltZ-false   what a test says
 --   ≤ℤ-leZ ≤ℤ-ltZ <ℤ-ltZ <ℤ-leZ            and back: the test passes, or the one the other way round fails
+--   leZ-not                                 one test fails where the other passes
 --   ≤ℤ-or-<ℤ ≮ℤ-≤ℤ ≰ℤ-<ℤ                    the order is total
 --   ≤ℤ-trans <ℤ-trans ≤ℤ-<ℤ-trans <ℤ-≤ℤ ≤ℤ-antisym
 --   <ℤ-sucℤ sucℤ-<ℤ                         a < b is a + 1 ≤ b
@@ -39,7 +40,7 @@ leb-not zero b = leb·zero b ∙ sym (ap not (leb·suc-zero b))
 leb-not (suc a) zero = leb·suc-zero a ∙ sym (ap not (leb·suc-suc zero a ∙ leb·zero a))
 leb-not (suc a) (suc b) = leb·suc-suc a b ∙ leb-not a b ∙ sym (ap not (leb·suc-suc (suc b) a))
 
-leZ-not : (a b : ℤ) → leZ a b ≡ not (ltZ b a)
+pub leZ-not : (a b : ℤ) → leZ a b ≡ not (ltZ b a)
 leZ-not (pos a) (pos b) = leb-not a b
 leZ-not (pos a) (negsuc b) = refl
 leZ-not (negsuc a) (pos b) = refl

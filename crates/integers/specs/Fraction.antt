@@ -20,7 +20,7 @@ isLess a b = ltb (a .upper * b .lower) (b .upper * a .lower)
 abbrev pub NotGreater : Fraction → Fraction → Type 0
 NotGreater a b = a .upper * b .lower ≤ b .upper * a .lower
 
--- A remainder and a lower number, of 32 bits each, have a product of 64.
+-- A cross product, of an upper number of 64 bits and a lower number of 32, is computed in two digits of base 2^32.
 pub record Bounded (a : Fraction) : Type 0 where
   pub lower-positive : 0 < a .lower
   pub lower-fits : a .lower < 2 ^ 32

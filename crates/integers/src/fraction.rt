@@ -1,6 +1,6 @@
 // Exact fractions of natural numbers, and their order.
 ghost use mathlib.Core.Path.{_≡_};
-ghost use Prim.Native.Nat.{_*_};
+ghost use Prim.Native.Nat.{_*_, _/_, _%_, _^_, _<_};
 ghost use Rattle.integers.specs.Fraction.{order, Bounded};
 
 // An upper number over a lower number. It is never reduced.
@@ -27,15 +27,39 @@ fn compare_numbers(x: u64, y: u64) -> Order
     }
 }
 
-// The order of two fractions: exactly that of their cross products, with nothing lost to 64 bits. Whole parts decide, and where
-// these are equal the remainders do.
+// The base of the digits, 2^32.
+const BASE: u64 = 4294967296;
+
+// A number of up to 96 bits as two digits: high * BASE + low.
+struct Digits {
+    high: u64,
+    low: u64,
+}
+
+// The digits of x * y, for a y of 32 bits: the products of y and each digit of x fit 64 bits.
+fn product(x: u64, y: u64) -> Digits
+    requires { ⌜ y < 2 ^ 32 ⌝ }
+    ensures { λ r. ⌜ r ≡ record { high = x * y / 2 ^ 32; low = x * y % 2 ^ 32 } ⌝ }
+{
+    let low = x % BASE * y;
+    let high = x / BASE * y + low / BASE;
+    Digits {
+        high,
+        low: low % BASE,
+    }
+}
+
+// The order of two fractions: exactly that of their cross products, with nothing lost to 64 bits. The high digits decide, and where
+// these are equal the low digits do.
 pub fn compare(a: Fraction, b: Fraction) -> Order
     requires { ⌜ Bounded a × Bounded b ⌝ }
     ensures { λ r. ⌜ r ≡ order (a .upper * b .lower) (b .upper * a .lower) ⌝ }
 {
-    match compare_numbers(a.upper / a.lower, b.upper / b.lower) {
+    let p = product(a.upper, b.lower);
+    let q = product(b.upper, a.lower);
+    match compare_numbers(p.high, q.high) {
         Order::Less => Order::Less,
-        Order::Equal => compare_numbers(a.upper % a.lower * b.lower, b.upper % b.lower * a.lower),
+        Order::Equal => compare_numbers(p.low, q.low),
         Order::Greater => Order::Greater,
     }
 }

@@ -1,1 +1,2 @@
 pub mod fraction;
+pub mod root;

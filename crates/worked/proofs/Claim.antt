@@ -23,4 +23,4 @@ use Rattle.worked.specs.Cases.{All, cases, S, T, star, straight, clockwi
 pub claim : All cases
 unfolding inRange _⇀_ cross dot same each corners next outOfRange repeated notLeftOf notLeft check without removal all firstOf feature triedCorners triedEdges tried least pointCheck isFirstHalf isBefore sameDirection _⇢_ rootBy precedes insert sort edgesBelow angularOrder own liesAt isCounted begin measured step steps report tryCorners S T star straight clockwise twice wedge moved turned low high square squareMoved thin wide
 claim =
-    (refl, (refl, (refl, (refl, (refl, (refl, ((refl, refl), ((refl, refl), ((refl, refl), ((refl, refl), (refl, (refl, (refl, (refl, (refl, (refl, (refl, (refl, (refl, (refl, (refl, (refl, (refl, (refl, (refl, (refl, (refl, (refl, (refl, (refl, (refl, (refl, (refl, (refl, (refl, (refl, (refl, (refl, tt))))))))))))))))))))))))))))))))))))))
+    (refl, (refl, (refl, (refl, (refl, (refl, ((refl, refl), ((refl, refl), ((refl, refl), ((refl, refl), (refl, (refl, (refl, (refl, (refl, (refl, (refl, (refl, (refl, (refl, (refl, (refl, (refl, (refl, (refl, (refl, (refl, (refl, (refl, (refl, (refl, (refl, (refl, (refl, (refl, (refl, (refl, (refl, (refl, (refl, (refl, tt)))))))))))))))))))))))))))))))))))))))))

@@ -12,7 +12,8 @@ use Rattle.outline.specs.declared.Refusal.{Refusal}
 use Rattle.outline.specs.declared.Verdict.{Verdict}
 use Rattle.outline.specs.declared.Verdict.the-variants.{Taken, Refused}
 use Rattle.outline.specs.declared.Place.the-variants.{Nowhere, EdgeAndCorner}
-use Rattle.outline.specs.declared.RefusedSide.the-variants.{NoSide}
+use Rattle.outline.specs.declared.RefusedSide.{RefusedSide}
+use Rattle.outline.specs.declared.RefusedSide.the-variants.{NoSide, A as OfA, B as OfB}
 use Rattle.outline.specs.Reading.{reading}
 use Rattle.outline.specs.Corners.{corners}
 use Rattle.nearest.specs.declared.NearestAnswer.{NearestAnswer}
@@ -28,12 +29,12 @@ use Rattle.hausdorff.specs.declared.Side.the-variants.{A, B}
 use Rattle.hausdorff.specs.declared.CornerGap.{CornerGap}
 use Rattle.hausdorff.specs.declared.WorstSoFar.{WorstSoFar}
 use Rattle.hausdorff.specs.declared.WorstSoFar.the-variants.{None, Worst}
-use Rattle.hausdorff.specs.declared.Report.{Report}
-use Rattle.hausdorff.specs.declared.Report.the-variants.{Spent, Done}
+use Rattle.hausdorff.specs.declared.Comparison.{Comparison}
+use Rattle.hausdorff.specs.declared.Comparison.the-variants.{Refused as CompareRefused, Spent, Done}
 use Rattle.hausdorff.specs.Pair.{Pair, both}
 use Rattle.hausdorff.specs.AngularOrder.{PairEdge, angularOrder}
-use Rattle.hausdorff.specs.Report.{report}
 use Rattle.hausdorff.specs.Exhaustive.{exhaustive}
+use Rattle.hausdorff.specs.Call.{comparison}
 
 pub data Case : Type 0 where
   -- reading the list ends so
@@ -46,8 +47,8 @@ pub data Case : Type 0 where
   searches : Corner → List ℤ → NearestPoint → Case
   -- the angular order of the edges of two lists' outlines is this
   orders : List ℤ → List ℤ → List PairEdge → Case
-  -- comparing them with a step allowance reports this
-  compares : List ℤ → List ℤ → ℕ → Report → Case
+  -- comparing the lists with a step allowance ends so
+  compares : List ℤ → List ℤ → ℕ → Comparison → Case
   -- the exhaustive search over both finds this
   exhausts : List ℤ → List ℤ → CornerGap → Case
 
@@ -60,7 +61,7 @@ Holds (removes s k out ends after) = (removalVerdict s k out ≡ ends) × (listA
 Holds (nears v s ends) = nearestAnswer v s ≡ ends
 Holds (searches v s found) = search (corners s) v ≡ found
 Holds (orders s t order) = angularOrder (pair s t) ≡ order
-Holds (compares s t allowance ends) = report (pair s t) allowance ≡ ends
+Holds (compares s t allowance ends) = comparison s t allowance ≡ ends
 Holds (exhausts s t found) = exhaustive (pair s t) ≡ found
 
 abbrev pub All : List Case → Type 0
@@ -110,8 +111,8 @@ four = pos 7 ∷ pos 7 ∷ pos 7 ∷ pos 7 ∷ []
 abbrev pub six : List ℤ
 six = pos 7 ∷ pos 7 ∷ four
 
-abbrev notLeft : ℕ → ℕ → Refusal
-notLeft e c = record { number = 6; side = NoSide; place = EdgeAndCorner e c }
+abbrev notLeft : RefusedSide → ℕ → ℕ → Refusal
+notLeft whose e c = record { number = 6; side = whose; place = EdgeAndCorner e c }
 
 abbrev tooFew : Refusal
 tooFew = record { number = 2; side = NoSide; place = Nowhere }
@@ -160,20 +161,20 @@ corner s i f upper x y lower = record {
   point = record { x = x; y = y; lower = lower };
 }
 
-abbrev spent : ℕ → ℕ → ℕ → WorstSoFar → Report
+abbrev spent : ℕ → ℕ → ℕ → WorstSoFar → Comparison
 spent steps i j worst = Spent (record { steps = steps; support = record { a = i; b = j }; worst = worst })
 
-abbrev done : ℕ → CornerGap → ℕ → Report
+abbrev done : ℕ → CornerGap → ℕ → Comparison
 done steps answer clearance = Done (record { steps = steps; answer = answer; clearance = clearance })
 
 abbrev pub cases : List Case
 cases =
     reads S Taken
     ∷ reads T Taken
-    ∷ reads star (Refused (notLeft 0 3))
-    ∷ reads straight (Refused (notLeft 0 2))
-    ∷ reads clockwise (Refused (notLeft 0 2))
-    ∷ reads twice (Refused (notLeft 0 3))
+    ∷ reads star (Refused (notLeft NoSide 0 3))
+    ∷ reads straight (Refused (notLeft NoSide 0 2))
+    ∷ reads clockwise (Refused (notLeft NoSide 0 2))
+    ∷ reads twice (Refused (notLeft NoSide 0 3))
     ∷ removes S 1 six Taken (pos 0 ∷ pos 0 ∷ pos 4 ∷ pos 4 ∷ pos 0 ∷ pos 4 ∷ [])
     ∷ removes T 0 four (Refused tooFew) four
     ∷ removes T 1 four (Refused tooFew) four
@@ -185,7 +186,7 @@ cases =
     ∷ nears (point (pos 6) (pos 1)) wedge (Found (within (pos 6) (pos 1)))
     ∷ nears (point (pos 9) (pos 0)) wedge (Found (within (pos 9) (pos 0)))
     ∷ nears (point (pos 0) (negsuc 16000)) wedge (NearestRefused pointOut)
-    ∷ nears (point (pos 0) (negsuc 16000)) clockwise (NearestRefused (notLeft 0 2))
+    ∷ nears (point (pos 0) (negsuc 16000)) clockwise (NearestRefused (notLeft NoSide 0 2))
     ∷ searches (point (pos 6) (pos 6)) wedge edgeOne
     ∷ searches (point (pos 12) (pos 9)) wedge (cornerOne 90)
     ∷ searches (point (pos 6) (pos 1)) wedge (within (pos 6) (pos 1))
@@ -206,6 +207,10 @@ cases =
     ∷ compares square squareMoved 6 (spent 6 2 2 (Worst (corner A 2 (AtCorner 2) 100 (pos 9) (pos 1) 1)))
     -- the nearest point is a neighbour of the support corner
     ∷ compares thin wide 2 (spent 2 0 0 (Worst (corner A 0 (AtCorner 0) 4 (pos 0) (pos 0) 1)))
+    -- refused: A's list, B's, and both, where A's refusal stands
+    ∷ compares star T 0 (CompareRefused (notLeft OfA 0 3))
+    ∷ compares S clockwise 0 (CompareRefused (notLeft OfB 0 2))
+    ∷ compares straight star 512 (CompareRefused (notLeft OfA 0 2))
     ∷ exhausts S T (corner A 2 (OnEdge 1) 256 (pos 64) (pos 64) 32)
     ∷ exhausts low high (corner A 0 (OnEdge 1) 4095872001 (pos 31999) (pos 31999) 2)
     ∷ exhausts square squareMoved (corner A 2 (AtCorner 2) 100 (pos 9) (pos 1) 1)

@@ -1,0 +1,146 @@
+-- The call that compares, as its callers see it.
+--     law-unique                      the law of demand 3 leaves one report
+--     compares                        what the call gives is as document 01 lays down: a refusal for the first fault of A's list, or
+--                                     else of B's, or else a report that obeys the law
+--     compares-unique                 and nothing else is
+-- For the code, by what reading the lists gives:
+--     call-asks                       a list is taken: what the steps ask of the outline
+--     call-unread-a, call-unread-b    A's list is refused; A's is taken and B's refused
+--     call-reported                   both are taken: what the call gives of the steps' report
+--     call-promises                   what it gives has both parts of its contract
+use Prim.Native.Nat.{ℕ}
+use mathlib.Core.Path.{_≡_, refl, sym, ap, _∙_}
+use mathlib.Core.Logic.{_↔_, Iff·trans, Iff·and}
+use mathlib.Core.Bool.{Bool, true, false}
+use mathlib.Core.List.{List}
+use native.Mathlib.Omega.{arith}
+use borrow.Author.Tests.{ltb-true, ltb-false}
+use lib.Dec.{ltb}
+use lib.IntN.{ℤ}
+use Rattle.plane.specs.declared.Corner.{Corner}
+use Rattle.outline.specs.declared.Check.{Check}
+use Rattle.outline.specs.declared.Check.the-variants.{Passed, Failed}
+use Rattle.outline.specs.declared.Fault.{Fault}
+use Rattle.outline.specs.declared.Reading.{Reading}
+use Rattle.outline.specs.declared.Refusal.{Refusal}
+use Rattle.outline.specs.declared.RefusedSide.{RefusedSide}
+use Rattle.outline.specs.declared.RefusedSide.the-variants.{A, B}
+use Rattle.outline.specs.declared.Verdict.the-variants.{Taken, Refused as NotTaken}
+use Rattle.outline.specs.Convex.{Accepted, IsOutline}
+use Rattle.outline.specs.Corners.{corners, cornersOf}
+use Rattle.outline.specs.Reading.{check, reading}
+use Rattle.outline.specs.Refusal.{refusal, verdict}
+use Rattle.outline.proofs.Acceptance.{accepted, first-stands}
+use Rattle.outline.proofs.ReadingLaws.{reading-outline, reading-cornersOf}
+use Rattle.outline.proofs.RefusalLaws.{refusal-injective, verdict-taken}
+use Rattle.hausdorff.specs.declared.Side.the-variants.{A as SideA, B as SideB}
+use Rattle.hausdorff.specs.declared.Report.{Report}
+use Rattle.hausdorff.specs.declared.Report.the-variants.{Spent as ReportSpent, Done as ReportDone}
+use Rattle.hausdorff.specs.declared.Comparison.{Comparison}
+use Rattle.hausdorff.specs.declared.Comparison.the-variants.{Refused}
+use Rattle.hausdorff.specs.Pair.{Pair, AcceptedPair, both, stepCount}
+use Rattle.hausdorff.specs.Report.{report}
+use Rattle.hausdorff.specs.Law.{Law}
+use Rattle.hausdorff.specs.Call.{compared, comparisonFor, comparison, AcceptedList, Compares}
+use Rattle.hausdorff.proofs.Law.{law}
+
+-- spent or done by the allowance, and then as laid down
+pub law-unique : {pair : Pair} {allowance : ℕ} {r q : Report} → Law pair allowance r → Law pair allowance q → r ≡ q
+law-unique {pair} {allowance} {r} {q} one other = go (ltb allowance (stepCount pair)) refl
+  where
+    go : (b : Bool) → ltb allowance (stepCount pair) ≡ b → r ≡ q
+    go true e = let below = ltb-true _ _ e in one .spent-below below ∙ sym (other .spent-below below)
+    go false e = let enough = ltb-false _ _ e in one .else-done enough ∙ sym (other .else-done enough)
+
+both-accepted : (ps qs : List Corner) → Accepted ps → Accepted qs → AcceptedPair (both ps qs)
+both-accepted ps qs ok-a ok-b SideA = ok-a
+both-accepted ps qs ok-a ok-b SideB = ok-b
+
+-- a report is no refusal
+not-refused : (report : Report) {r : Refusal} → ¬ (compared report ≡ Refused r)
+not-refused (ReportSpent spent) e = let z : _≡_ {A = ℕ} 0 1 = cc in omega arith
+not-refused (ReportDone done) e = let z : _≡_ {A = ℕ} 0 1 = cc in omega arith
+
+-- a refusal names one side
+sides-differ : (f g : Fault) → ¬ (refusal A f ≡ refusal B g)
+sides-differ f g e = let sides = ap (λ (r : Refusal). r .side) e in let z : _≡_ {A = ℕ} 0 1 = cc in omega arith
+
+-- a list that is read and taken, on either side
+module _ (whose : RefusedSide) (s : List ℤ) {o : Reading} (is-read : o ≡ reading whose s) (taken : o .verdict ≡ Taken) where
+  is-taken : reading whose s .verdict ≡ Taken
+  is-taken = rw is-read at taken
+
+  passes : check s ≡ Passed
+  passes = verdict-taken whose (check s) .0 is-taken
+
+  cornersOf-read : cornersOf (o .outline) ≡ corners s
+  cornersOf-read = rw is-read (reading-cornersOf whose s is-taken)
+
+  pub call-asks : IsOutline (o .outline)
+  call-asks = rw is-read (reading-outline whose s is-taken)
+
+module _ (s t : List ℤ) (allowance : ℕ) where
+  abbrev reports : Report
+  reports = report (both (corners s) (corners t)) allowance
+
+  obeys : AcceptedList s → AcceptedList t → Law (both (corners s) (corners t)) allowance reports
+  obeys ok-a ok-b = law _ (both-accepted _ _ (ok-a .1) (ok-b .1)) allowance
+
+  -- a refusal with side A comes exactly where the checks of A's list fail so
+  for-a : (c d : Check) (f : Fault) → (comparisonFor s t allowance c d ≡ Refused (refusal A f)) ↔ (c ≡ Failed f)
+  for-a (Failed g) d f = (λ e. ap Failed (refusal-injective A (cc)), λ e. cc)
+  for-a Passed (Failed g) f = (λ e. absurd (sides-differ f g (cc)), λ e. cc)
+  for-a Passed Passed f = (λ e. absurd (not-refused reports e), λ e. cc)
+
+  -- and one with side B where those pass and the checks of B's list fail so
+  for-b : (c d : Check) (f : Fault)
+      → (comparisonFor s t allowance c d ≡ Refused (refusal B f)) ↔ ((c ≡ Passed) × (d ≡ Failed f))
+  for-b (Failed g) d f = (λ e. absurd (sides-differ g f (cc)), λ h. cc)
+  for-b Passed (Failed g) f = (λ e. (refl, ap Failed (refusal-injective B (cc))), λ h. cc)
+  for-b Passed Passed f = (λ e. absurd (not-refused reports e), λ h. cc)
+
+  pub compares : Compares s t allowance (comparison s t allowance)
+  compares = record {
+    refused-a = λ f. Iff·trans (for-a (check s) (check t) f) (first-stands s f);
+    refused-b = λ f. Iff·trans (for-b (check s) (check t) f) (Iff·and (accepted s) (first-stands t f));
+    reported = λ ok-a ok-b. (reports, rw (accepted s .1 ok-a, accepted t .1 ok-b), obeys ok-a ok-b);
+  }
+
+  -- a list has a first fault or is accepted, so each case of the checks leaves one result
+  pub compares-unique : {result : Comparison} → Compares s t allowance result → result ≡ comparison s t allowance
+  compares-unique {result} given = go (check s) (check t) refl refl
+    where
+      go : (c d : Check) → check s ≡ c → check t ≡ d → result ≡ comparisonFor s t allowance c d
+      go (Failed f) d fails-a is = given .refused-a f .1 (first-stands s f .0 fails-a)
+      go Passed (Failed g) passes-a fails-b = given .refused-b g .1 (accepted s .0 passes-a, first-stands t g .0 fails-b)
+      go Passed Passed passes-a passes-b =
+          let ok-a = accepted s .0 passes-a in let ok-b = accepted t .0 passes-b in
+          let (_, is, lawful) = given .reported ok-a ok-b in is ∙ ap compared (law-unique lawful (obeys ok-a ok-b))
+
+  pub call-promises : {result : Comparison} → result ≡ comparison s t allowance
+      → (result ≡ comparison s t allowance) × Compares s t allowance result
+  call-promises is = (is, rw is compares)
+
+  -- the refusal that reading A's list gives is the call's, whatever B's list is
+  refused-first : (c d : Check) {r : Refusal} → verdict A c ≡ NotTaken r → Refused r ≡ comparisonFor s t allowance c d
+  refused-first (Failed f) d e = cc
+  refused-first Passed d e = cc
+
+  -- and the one that reading B's list gives, where A's passes
+  refused-second : (d : Check) {r : Refusal} → verdict B d ≡ NotTaken r → Refused r ≡ comparisonFor s t allowance Passed d
+  refused-second (Failed g) e = cc
+  refused-second Passed e = cc
+
+  module _ {o : Reading} (is-a : o ≡ reading A s) where
+    pub call-unread-a : {r : Refusal} → o .verdict ≡ NotTaken r → Refused r ≡ comparison s t allowance
+    call-unread-a not-taken = refused-first (check s) (check t) (rw is-a at not-taken)
+
+    module _ (taken-a : o .verdict ≡ Taken) {q : Reading} (is-b : q ≡ reading B t) where
+      pub call-unread-b : {r : Refusal} → q .verdict ≡ NotTaken r → Refused r ≡ comparison s t allowance
+      call-unread-b not-taken = rw (passes A s is-a taken-a) (refused-second (check t) (rw is-b at not-taken))
+
+      pub call-reported : {r : Report} → q .verdict ≡ Taken
+          → r ≡ report (both (cornersOf (o .outline)) (cornersOf (q .outline))) allowance → compared r ≡ comparison s t allowance
+      call-reported taken-b is =
+          let at-a = cornersOf-read A s is-a taken-a in let at-b = cornersOf-read B t is-b taken-b in
+          rw (is, at-a, at-b, passes A s is-a taken-a, passes B t is-b taken-b)

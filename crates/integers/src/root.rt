@@ -1,0 +1,16 @@
+// The whole part of a square root.
+ghost use mathlib.Core.Path.{_≡_};
+ghost use Rattle.integers.specs.Root.{root};
+
+// The largest number whose square is not above n: twice that of n / 4, or one more. At most 32 calls deep.
+pub fn root(n: u64) -> u64
+    ensures { λ r. ⌜ r ≡ root n ⌝ }
+{
+    if n == 0 {
+        return 0;
+    }
+    let half = root(n / 4);
+    let even = half + half;
+    let odd = even + 1;
+    if odd * odd <= n { odd } else { even }
+}

@@ -1,0 +1,27 @@
+-- `measuring::measure` keeps the old worst so far, or puts together what takes its place.
+use borrow.Author.Needs.{needs}
+use borrow.Author.Tests.{not-true, not-false}
+use mathlib.Core.Path.{sym}
+use Rattle.measuring.proofs.ImprovingLaws.{keeps-old, takes-new}
+use Rattle.measuring.proofs.measure.Statement.{statement}
+use Rattle.measuring.proofs.measure.Tie as tie
+
+improves-requires : tie.Need-improves-requires
+improves-requires c κs = search needs
+
+returns : tie.Need-returns
+returns c =
+    let given = c .before .before .args in
+    sym (keeps-old (given .side) (given .corner) (given .v) (given .w) (given .f) (given .old) (not-true _ (cc)))
+
+values-requires : tie.Need-values-requires
+values-requires c κs = search needs
+
+returns-2 : tie.Need-returns-2
+returns-2 c =
+    let given = c .before .before .before .before .before .args in
+    let taken = takes-new (given .side) (given .corner) (given .v) (given .w) (given .f) (given .old) (not-false _ (cc)) in
+    rw (taken, c .before .before .values .ensures)
+
+pub measure-spec : {M : Type 1} → statement M
+measure-spec = tie.close (tie.spec improves-requires returns values-requires returns-2)

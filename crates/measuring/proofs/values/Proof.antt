@@ -1,0 +1,94 @@
+-- `measuring::values` answers for each part of the window.
+use borrow.Author.Needs.{needs}
+use Rattle.measuring.proofs.WindowLaws.{seen-below, seen-range}
+use Rattle.measuring.proofs.values.Statement.{statement}
+use Rattle.measuring.proofs.values.Tie as tie
+
+enum-told : tie.Need-enum-told
+enum-told c = search needs
+
+within-requires : tie.Need-within-requires
+within-requires c κs = search needs
+
+enum-told-2 : tie.Need-enum-told-2
+enum-told-2 c = search needs
+
+at-corner-requires : tie.Need-at-corner-requires
+at-corner-requires c κs = let range = seen-range (c .before .before .pre .1) in search needs
+
+enum-told-3 : tie.Need-enum-told-3
+enum-told-3 c = search needs
+
+on-edge-requires : tie.Need-on-edge-requires
+on-edge-requires c κs = let range = seen-range (c .before .before .pre .1) in search needs
+
+enum-told-4 : tie.Need-enum-told-4
+enum-told-4 c = search needs
+
+previous-requires : tie.Need-previous-requires
+previous-requires c κs = seen-below (c .before .before .pre .1)
+
+on-edge-requires-2 : tie.Need-on-edge-requires-2
+on-edge-requires-2 c κs = let range = seen-range (c .before .before .before .pre .1) in search needs
+
+enum-told-5 : tie.Need-enum-told-5
+enum-told-5 c = search needs
+
+next-requires : tie.Need-next-requires
+next-requires c κs = seen-below (c .before .before .pre .1)
+
+at-corner-requires-2 : tie.Need-at-corner-requires-2
+at-corner-requires-2 c κs = let range = seen-range (c .before .before .before .pre .1) in search needs
+
+enum-told-6 : tie.Need-enum-told-6
+enum-told-6 c = search needs
+
+previous-requires-2 : tie.Need-previous-requires-2
+previous-requires-2 c κs = seen-below (c .before .before .pre .1)
+
+at-corner-requires-3 : tie.Need-at-corner-requires-3
+at-corner-requires-3 c κs = let range = seen-range (c .before .before .before .pre .1) in search needs
+
+returns : tie.Need-returns
+returns c = rw (c .before .enum-told .given .1) (c .within .ensures)
+
+returns-2 : tie.Need-returns-2
+returns-2 c = rw (c .before .enum-told2 .given .1) (c .at-corner .ensures)
+
+returns-3 : tie.Need-returns-3
+returns-3 c = rw (c .before .enum-told3 .given .1) (c .on-edge .ensures)
+
+returns-4 : tie.Need-returns-4
+returns-4 c = rw (c .before .before .enum-told4 .given .1, ← c .before .previous .ensures) (c .on-edge2 .ensures)
+
+returns-5 : tie.Need-returns-5
+returns-5 c = rw (c .before .before .enum-told5 .given .1, ← c .before .next .ensures) (c .at-corner2 .ensures)
+
+returns-6 : tie.Need-returns-6
+returns-6 c = rw (c .before .before .enum-told6 .given .1, ← c .before .previous2 .ensures) (c .at-corner3 .ensures)
+
+pub values-spec : {M : Type 1} → statement M
+values-spec =
+    tie.close
+    (tie.spec
+    enum-told
+    within-requires
+    enum-told-2
+    at-corner-requires
+    enum-told-3
+    on-edge-requires
+    enum-told-4
+    previous-requires
+    on-edge-requires-2
+    enum-told-5
+    next-requires
+    at-corner-requires-2
+    enum-told-6
+    previous-requires-2
+    at-corner-requires-3
+    returns
+    returns-2
+    returns-3
+    returns-4
+    returns-5
+    returns-6)

@@ -1,0 +1,28 @@
+-- What a step sees of an outline.
+--     windowAt    the support corner b of an outline and the two corners on either side, taken round
+--     Seen        a window is that of an accepted outline at one of its corners
+use Prim.Native.Nat.{ℕ, _<_}
+use mathlib.Core.Path.{_≡_}
+use mathlib.Core.List.{List}
+use lib.ListN.{length}
+use Rattle.plane.specs.declared.Corner.{Corner}
+use Rattle.outline.specs.Convex.{Accepted}
+use Rattle.outline.specs.Corners.{corner, next, previous}
+use Rattle.measuring.specs.declared.Window.{Window}
+
+abbrev pub windowAt : List Corner → ℕ → Window
+windowAt cs b = record {
+  count = length cs;
+  number = b;
+  farbefore = corner cs (previous (length cs) (previous (length cs) b));
+  before = corner cs (previous (length cs) b);
+  corner = corner cs b;
+  after = corner cs (next (length cs) b);
+  farafter = corner cs (next (length cs) (next (length cs) b));
+}
+
+pub record Seen (w : Window) : Type 0 where
+  pub outline : List Corner
+  pub accepted : Accepted outline
+  pub known : w .number < length outline
+  pub equal : w ≡ windowAt outline (w .number)

@@ -1,0 +1,38 @@
+-- `sweep::b_is_next` makes the definition's three tests in order.
+use borrow.Author.Needs.{needs, sfits-of}
+use borrow.Author.Tests.{ne-eqb}
+use mir.Facts.{toZ-ofZ}
+use mir.Syntax.{w64}
+use mir.Val.{SFits}
+use Rattle.plane.proofs.Range.{span-difference}
+use Rattle.measuring.proofs.WindowLaws.{seen-range}
+use Rattle.sweep.proofs.b_is_next.Statement.{statement}
+use Rattle.sweep.proofs.b_is_next.Tie as tie
+
+returns : tie.Need-returns
+returns c = rw (c .if1 .taken)
+
+returns-2 : tie.Need-returns-2
+returns-2 c = rw (ne-eqb _ 0 (c .before .if1 .left), c .if2 .taken)
+
+difference-requires : tie.Need-difference-requires
+difference-requires c κs = search needs
+
+difference-requires-2 : tie.Need-difference-requires-2
+difference-requires-2 c κs = search needs
+
+side-requires : tie.Need-side-requires
+side-requires c κs =
+    let in-a = seen-range (c .before .before .before .before .pre .seen-a) in
+    let in-b = seen-range (c .before .before .before .before .pre .seen-b) in
+    search span-difference
+
+returns-3 : tie.Need-returns-3
+returns-3 c =
+    let fits : SFits w64 (c .side .result) = search sfits-of in
+    rw (ne-eqb _ 0 (c .before .before .before .before .if1 .left), ne-eqb _ 0 (c .before .before .before .if2 .left), toZ-ofZ fits) (cc)
+
+pub b-is-next-spec : {M : Type 1} → statement M
+b-is-next-spec =
+    tie.close
+    (tie.spec returns returns-2 difference-requires difference-requires-2 side-requires returns-3)

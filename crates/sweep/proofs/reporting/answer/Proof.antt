@@ -1,0 +1,22 @@
+-- `reporting::answer` puts the answer within together, where there is no worst so far.
+use borrow.Author.Needs.{needs}
+use Rattle.sweep.proofs.reporting.answer.Statement.{statement}
+use Rattle.sweep.proofs.reporting.answer.Tie as tie
+
+enum-known-worst : tie.Need-enum-known-worst
+enum-known-worst c = search needs
+
+enum-told : tie.Need-enum-told
+enum-told c = search needs
+
+within-requires : tie.Need-within-requires
+within-requires c κs = search needs
+
+returns : tie.Need-returns
+returns c = search needs
+
+returns-2 : tie.Need-returns-2
+returns-2 c = rw (c .before .before .before .enum-told .given .1, c .before .before .within .ensures)
+
+pub answer-spec : {M : Type 1} → statement M
+answer-spec = tie.close (tie.spec enum-known-worst enum-told within-requires returns returns-2)

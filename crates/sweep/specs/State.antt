@@ -1,0 +1,130 @@
+-- The state of the sweep as code, and how it stands for document 01's sweep.
+--     walkOf          one side's part of a state
+--     toCome          how many edges of a side are still to come after k steps
+--     IsAfter         a state is the sweep after k steps
+--     Due             a state and two windows from which a step can be made: the sweep of some accepted pair after fewer than N steps,
+--                     and what there is at its support corners
+-- What the parts of a step do, for the code alone (`proofs/StepLaws.antt` shows that together they are a step):
+--     bIsNext         the next edge is B's
+--     advanced, moved        a side's support corner moves on; that of the side whose edge is next does
+--     mayChange, withWorst   measuring changes the worst so far of a side; the state measured, both ways
+--     Measurable, BoundedState, Passable    what they ask
+-- Where a sweep begins and what it reports, for the code alone:
+--     isLower         a corner is lower than another or, at the same height, left of it
+--     Begins          one side's part before step 1
+--     reported        the report of a state after some steps
+use Prim.Native.Nat.{ℕ, _+_, _-_, _<_}
+use mathlib.Core.Path.{_≡_}
+use mathlib.Core.Bool.{Bool, cond, not, _&&_, _||_}
+use lib.Dec.{eqb}
+use mathlib.Core.List.{List}
+use lib.IntN.{pos}
+use lib.ListN.{length, drop}
+use lib.Signed.{ltZ}
+use Rattle.integers.specs.Equal.{eqZ}
+use Rattle.plane.specs.declared.Corner.{Corner}
+use Rattle.plane.specs.Vector.{_⇀_, cross}
+use Rattle.outline.specs.Corners.{next}
+use Rattle.hausdorff.specs.declared.Side.{Side}
+use Rattle.hausdorff.specs.declared.Side.the-variants.{A, B}
+use Rattle.hausdorff.specs.declared.WorstSoFar.the-variants.{None}
+use Rattle.hausdorff.specs.declared.Report.{Report}
+use Rattle.hausdorff.specs.declared.Report.the-variants.{Spent as ReportSpent, Done as ReportDone}
+use Rattle.hausdorff.specs.Pair.{Pair, AcceptedPair, stepCount}
+use Rattle.hausdorff.specs.AngularOrder.{angularOrder, own}
+use Rattle.hausdorff.specs.Sweep.{after}
+use Rattle.hausdorff.specs.Worst.{keep, overall}
+use Rattle.hausdorff.specs.Report.{clearance}
+use Rattle.hausdorff.proofs.LowestLaws.{LowestLeftmost}
+use Rattle.sweep.specs.declared.Walk.{Walk}
+use Rattle.sweep.specs.declared.State.{State}
+use Rattle.measuring.specs.declared.Window.{Window}
+use Rattle.measuring.specs.declared.Near.{Near}
+use Rattle.measuring.specs.Window.{windowAt, Seen}
+use Rattle.measuring.specs.Near.{nearWorst}
+use Rattle.measuring.specs.Improving.{BoundedWorst, improves}
+use Rattle.sweep.specs.Reporting.{orWithin}
+
+abbrev pub walkOf : State → Side → Walk
+walkOf state A = state .a
+walkOf state B = state .b
+
+abbrev pub toCome : Pair → ℕ → Side → ℕ
+toCome pair k s = length (own s (drop k (angularOrder pair)))
+
+pub record IsAfter (pair : Pair) (k : ℕ) (state : State) : Type 0 where
+  pub support : (s : Side) → walkOf state s .support ≡ after pair k .support s
+  pub left : (s : Side) → walkOf state s .left ≡ toCome pair k s
+  pub worst : (s : Side) → walkOf state s .worst ≡ after pair k .worst s
+
+pub record Due (state : State) (a b : Window) : Type 0 where
+  pub pair : Pair
+  pub steps : ℕ
+  pub accepted : AcceptedPair pair
+  pub more : steps < stepCount pair
+  pub is-after : IsAfter pair steps state
+  pub sees-a : a ≡ windowAt (pair A) (state .a .support)
+  pub sees-b : b ≡ windowAt (pair B) (state .b .support)
+
+pub record Measurable (a b : Window) : Type 0 where
+  pub seen-a : Seen a
+  pub seen-b : Seen b
+
+pub record BoundedState (state : State) : Type 0 where
+  pub bounded-a : BoundedWorst (state .a .worst)
+  pub bounded-b : BoundedWorst (state .b .worst)
+
+pub record Passable (state : State) (a b : Window) : Type 0 where
+  pub measurable : Measurable a b
+  pub known-a : state .a .support < a .count
+  pub known-b : state .b .support < b .count
+  pub more : 0 < state .a .left + state .b .left
+
+-- A has no edge left, or both have some and B's is strictly first
+abbrev pub bIsNext : Window → Window → ℕ → ℕ → Bool
+bIsNext a b aleft bleft =
+    eqb aleft 0 || (not (eqb bleft 0) && ltZ (cross (a .corner ⇀ a .after) (b .corner ⇀ b .after)) (pos 0))
+
+-- the support corner moves to the end of the edge that starts there
+abbrev pub advanced : ℕ → Walk → Walk
+advanced count walk = record { support = next count (walk .support); left = walk .left - 1; worst = walk .worst }
+
+abbrev pub moved : Window → Window → State → State
+moved a b state =
+    cond (bIsNext a b (state .a .left) (state .b .left))
+    (record { a = state .a; b = advanced (b .count) (state .b) })
+    (record { a = advanced (a .count) (state .a); b = state .b })
+
+abbrev pub mayChange : Window → Window → Near → Near → State → Bool
+mayChange a b ofa ofb state =
+    improves (a .number) (a .corner) b ofa (state .a .worst) || improves (b .number) (b .corner) a ofb (state .b .worst)
+
+abbrev pub withWorst : Window → Window → Near → Near → State → State
+withWorst a b ofa ofb state = record {
+  a = record {
+    support = state .a .support;
+    left = state .a .left;
+    worst = keep (λ (i : ℕ). i) (state .a .worst) (nearWorst A (a .number) (a .corner) b ofa);
+  };
+  b = record {
+    support = state .b .support;
+    left = state .b .left;
+    worst = keep (λ (i : ℕ). i) (state .b .worst) (nearWorst B (b .number) (b .corner) a ofb);
+  };
+}
+
+abbrev pub isLower : Corner → Corner → Bool
+isLower p q = cond (eqZ (p .y) (q .y)) (ltZ (p .x) (q .x)) (ltZ (p .y) (q .y))
+
+pub record Begins (cs : List Corner) (walk : Walk) : Type 0 where
+  pub support : LowestLeftmost cs (walk .support)
+  pub left : walk .left ≡ length cs
+  pub worst : walk .worst ≡ None
+
+-- `first` is A's corner 0
+abbrev pub reported : State → ℕ → Bool → Corner → Report
+reported state steps spent first =
+    let worst = overall (state .a .worst) (state .b .worst) in
+    cond spent
+    (ReportSpent (record { steps = steps; support = record { a = state .a .support; b = state .b .support }; worst = worst }))
+    (ReportDone (record { steps = steps; answer = orWithin first worst; clearance = clearance (orWithin first worst .gap) }))
