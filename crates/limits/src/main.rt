@@ -1,7 +1,6 @@
 // The worked examples of document 01 about reading an outline and removing a corner, and cases at the limits, run through the
 // public calls. Each prints one line.
 mod large;
-mod print;
 mod report;
 
 const SQUARE: [i32; 8] = [0, 0, 4, 0, 4, 4, 0, 4];

@@ -1,6 +1,5 @@
 // The lines of the program: a name, then `taken` or `refused` with document 01's number and place, then how many corners
 // were read, or the list that was lent to a removal.
-use crate::print;
 use outline::Place;
 use outline::Refusal;
 use outline::Verdict;
@@ -51,11 +50,23 @@ pub fn reading(name: &[u8], s: &[i32]) {
     print::text(b"\n");
 }
 
+fn print_number(n: i32) {
+    print::text(b" ");
+    print::signed(n as i64);
+}
+
+// The numbers of a list, a space before each.
+fn print_list(s: &[i32]) {
+    for i in 0..s.len() {
+        print_number(s[i]);
+    }
+}
+
 // Removes corner k of a list.
 pub fn removal(name: &[u8], s: &[i32], k: usize, out: &mut [i32]) {
     print_verdict(name, calls::remove_corner(s, k, out));
     print::text(b", list");
-    print::list(out);
+    print_list(out);
     print::text(b"\n");
 }
 

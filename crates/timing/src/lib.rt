@@ -1,5 +1,7 @@
 // Calls for the benchmarks under bench/, which link them from C. `points` gives x and y of each point. Each answers the greatest
 // upper number of a gap, so that no work can be left out.
+use hausdorff::Comparison;
+use hausdorff::Report;
 use nearest::NearestAnswer;
 use outline::Outline;
 use outline::RefusedSide;
@@ -67,4 +69,71 @@ pub extern "C" fn timing_core(s: &[i32], points: &[i32]) -> u64 {
         return 0;
     }
     each_found(reading.outline, points)
+}
+
+// The upper number of the gap that the public call answers, or 0 where it does not.
+fn compared(a: &[i32], b: &[i32], allowance: u32) -> u64 {
+    match calls::compare(a, b, allowance) {
+        Comparison::Refused(_) => 0,
+        Comparison::Spent(_) => 0,
+        Comparison::Done(done) => done.answer.gap.upper,
+    }
+}
+
+// More steps than any comparison makes, and not twice the same number: each turn is another call.
+fn enough(turn: u32) -> u32 {
+    1000 + turn % 1000
+}
+
+// The public call for two lists, some times over: both are read each time.
+#[no_mangle]
+pub extern "C" fn timing_compare(a: &[i32], b: &[i32], turns: u32) -> u64 {
+    let mut greatest = 0;
+    let mut i = 0;
+    while i < turns {
+        greatest = greater(greatest, compared(a, b, enough(i)));
+        i += 1;
+    }
+    greatest
+}
+
+// The upper number of the gap that the core reports, or 0 where it is spent.
+fn swept(a: Outline, b: Outline, allowance: u32) -> u64
+    requires { ⌜ IsOutline a ⌝ }
+    requires { ⌜ IsOutline b ⌝ }
+{
+    match sweep::compare(a, b, allowance) {
+        Report::Spent(_) => 0,
+        Report::Done(done) => done.answer.gap.upper,
+    }
+}
+
+// The core for two outlines that are held, some times over.
+fn each_swept(a: Outline, b: Outline, turns: u32) -> u64
+    requires { ⌜ IsOutline a ⌝ }
+    requires { ⌜ IsOutline b ⌝ }
+{
+    let mut greatest = 0;
+    let mut i = 0;
+    while i < turns {
+        greatest = greater(greatest, swept(a, b, enough(i)));
+        i += 1;
+    }
+    greatest
+}
+
+// The core for two lists, some times over: both are read once.
+#[no_mangle]
+pub extern "C" fn timing_sweep(a: &[i32], b: &[i32], turns: u32) -> u64 {
+    let reada = outline::read(a, RefusedSide::A);
+    let verdicta = reada.verdict;
+    if let Verdict::Refused(_) = verdicta {
+        return 0;
+    }
+    let readb = outline::read(b, RefusedSide::B);
+    let verdictb = readb.verdict;
+    if let Verdict::Refused(_) = verdictb {
+        return 0;
+    }
+    each_swept(reada.outline, readb.outline, turns)
 }

@@ -1,0 +1,113 @@
+/* Times comparing at 2×4, 2×32, 2×128 and 2×256 corners: the proved call and its sweep alone, and beside them the plain sweep and the
+   exhaustive search of plain.h, on the same outlines in one run. Each figure is the median of 31 runs, in nanoseconds for a comparison. */
+#include <math.h>
+#include <stdio.h>
+#include <stdlib.h>
+#include <string.h>
+#include <time.h>
+#include "plain.h"
+
+uint64_t timing_compare(const int32_t *a, size_t n, const int32_t *b, size_t m, uint32_t turns);
+uint64_t timing_sweep(const int32_t *a, size_t n, const int32_t *b, size_t m, uint32_t turns);
+
+enum { RUNS = 31, MOST = 256 };
+
+typedef struct {
+    size_t n;
+    Corner a[MOST], b[MOST];
+} Pair;
+
+static double now(void) {
+    struct timespec t;
+    clock_gettime(CLOCK_MONOTONIC, &t);
+    return t.tv_sec * 1e9 + t.tv_nsec;
+}
+
+static int by_size(const void *a, const void *b) {
+    double x = *(const double *)a, y = *(const double *)b;
+    return (x > y) - (x < y);
+}
+
+/* What each way answers: the upper number of the gap, `turns` times added up, so that no work can be left out. */
+static uint64_t call(const Pair *p, uint32_t turns) { return timing_compare(&p->a[0].x, 2 * p->n, &p->b[0].x, 2 * p->n, turns); }
+
+static uint64_t sweep(const Pair *p, uint32_t turns) { return timing_sweep(&p->a[0].x, 2 * p->n, &p->b[0].x, 2 * p->n, turns); }
+
+static uint64_t plain(const Pair *p, uint32_t turns) {
+    uint64_t sum = 0;
+    for (uint32_t i = 0; i < turns; i++) {
+        __asm__ volatile("" ::: "memory");
+        sum += plain_sweep(p->a, p->n, p->b, p->n).gap.upper;
+    }
+    return sum;
+}
+
+static uint64_t exhaustive(const Pair *p, uint32_t turns) {
+    uint64_t sum = 0;
+    for (uint32_t i = 0; i < turns; i++) {
+        __asm__ volatile("" ::: "memory");
+        sum += plain_search(p->a, p->n, p->b, p->n).gap.upper;
+    }
+    return sum;
+}
+
+enum { WAYS = 4 };
+
+static uint64_t (*const ways[WAYS])(const Pair *, uint32_t) = {call, sweep, plain, exhaustive};
+
+/* The medians of all ways, their runs taken in turn so that load on the machine meets each alike. */
+static void medians(const Pair *p, double *out) {
+    static volatile uint64_t sink;
+    static double run[WAYS][RUNS];
+    for (int i = 0; i < RUNS; i++)
+        for (int w = 0; w < WAYS; w++) {
+            uint32_t turns = (w == 3 ? 2000 : 50000) / (p->n * (w == 3 ? p->n / 4 : 1)) + 1;
+            double start = now();
+            sink = ways[w](p, turns);
+            run[w][i] = (now() - start) / turns;
+        }
+    (void)sink;
+    for (int w = 0; w < WAYS; w++) {
+        qsort(run[w], RUNS, sizeof run[w][0], by_size);
+        out[w] = run[w][RUNS / 2];
+    }
+}
+
+/* n points on an ellipse, from some place on. */
+static void ellipse(Corner *out, size_t n, double rx, double ry, double x, double turn) {
+    for (size_t i = 0; i < n; i++) {
+        double t = 2 * M_PI * (i + turn) / n;
+        out[i] = (Corner){(int32_t)lround(x + rx * cos(t)), (int32_t)lround(ry * sin(t))};
+    }
+}
+
+static void time_pair(const char *name, const Pair *p) {
+    double t[WAYS];
+    uint64_t answer = call(p, 1);
+    if (answer == 0 || answer != sweep(p, 1) || answer != plain(p, 1) || answer != exhaustive(p, 1)) {
+        fprintf(stderr, "%s, 2x%zu: an outline is refused, or the answers differ\n", name, p->n);
+        exit(1);
+    }
+    medians(p, t);
+    printf("| %s | 2×%zu | %.0f | %.0f | %.1f | %.0f | %.2f | %.0f | %.0f |\n", name, p->n, t[0], t[1], t[1] / (2 * p->n), t[2], t[1] / t[2], t[3],
+           t[3] / t[1]);
+}
+
+int main(void) {
+    static const size_t counts[] = {4, 32, 128, 256};
+    puts("| outlines | corners | call | sweep | for a step | plain sweep | ratio | exhaustive | ratio |");
+    puts("|---|---|---|---|---|---|---|---|---|");
+    for (int i = 0; i < 4; i++) {
+        Pair p = {.n = counts[i]};
+        ellipse(p.a, p.n, 15000, 15000, 0, 0.3);
+        ellipse(p.b, p.n, 14000, 14000, 0, 0);
+        time_pair("one in the other", &p);
+        ellipse(p.a, p.n, 15000, 12000, 0, 0.3);
+        ellipse(p.b, p.n, 12000, 15000, 0, 0);
+        time_pair("crossing", &p);
+        ellipse(p.a, p.n, 7600, 7600, -8000, 0.3);
+        ellipse(p.b, p.n, 7600, 7600, 8000, 0);
+        time_pair("apart", &p);
+    }
+    return 0;
+}

@@ -1,0 +1,284 @@
+"""Writes the input of the program `pairs`, and the answers that `reference.py` gives: crates/pairs/stdin and crates/pairs/stdout.
+
+Run without arguments from anywhere. The same seed gives the same files, on any machine: whole numbers only, and a generator of its own.
+The input has, for each pair, how many numbers A's list has and the numbers, the same of B's, and how many allowances there are and these.
+"""
+from functools import cmp_to_key
+from math import gcd, isqrt
+from pathlib import Path
+
+from reference import LIMIT, Comparing, compare_all, half, refusal, side_number
+
+SEED = 20261115
+MOST = 2**32 - 1
+
+
+class Random:
+    """xorshift64*."""
+
+    def __init__(self, seed):
+        self.state = seed
+
+    def below(self, n):
+        x = self.state
+        x ^= x >> 12
+        x = (x ^ (x << 25)) % 2**64
+        x ^= x >> 27
+        self.state = x
+        return (x * 2685821657736338717 % 2**64 >> 11) % n
+
+    def between(self, low, high):
+        return low + self.below(high - low + 1)
+
+    def one_of(self, items):
+        return items[self.below(len(items))]
+
+
+def hull(points):
+    """The strictly convex hull, counterclockwise."""
+    points = sorted(set(points))
+    chains = []
+    for run in (points, points[::-1]):
+        chain = []
+        for p in run:
+            while len(chain) > 1 and side_number(chain[-2], chain[-1], p) <= 0:
+                chain.pop()
+            chain.append(p)
+        chains.append(chain[:-1])
+    return chains[0] + chains[1]
+
+
+def from_points(random, reach, points):
+    """The hull of random points, of three corners at least."""
+    while True:
+        piece = hull([(random.between(-reach, reach), random.between(-reach, reach)) for _ in range(points)])
+        if len(piece) >= 3:
+            return piece
+
+
+def from_edges(random, n, reach):
+    """n corners: edges of different directions and their opposites, one after the other, and some corners left out."""
+    runs = {}
+    while 2 * len(runs) < n:
+        d = (random.between(-reach, reach), random.between(0, reach))
+        if half(d) == 0 and d != (0, 0):
+            g = gcd(*d)
+            runs[d[0] // g, d[1] // g] = d
+    first = sorted(runs.values(), key=cmp_to_key(lambda d, e: -(d[0] * e[1] - d[1] * e[0])))
+    x = y = 0
+    piece = []
+    for dx, dy in first + [(-dx, -dy) for dx, dy in first]:
+        piece.append((x, y))
+        x, y = x + dx, y + dy
+    middle = (piece[0][0] + piece[len(first)][0]) // 2, (piece[0][1] + piece[len(first)][1]) // 2
+    while len(piece) > n:
+        piece.pop(random.below(len(piece)))
+    return [(x - middle[0], y - middle[1]) for x, y in piece]
+
+
+def moved(piece, dx, dy):
+    return [(x + dx, y + dy) for x, y in piece]
+
+
+def times(piece, k):
+    return [(k * x, k * y) for x, y in piece]
+
+
+def from_corner(piece, k):
+    """The same outline, listed from another corner."""
+    return piece[k:] + piece[:k]
+
+
+def opposite(piece):
+    """The outline turned by half a turn."""
+    return [(-x, -y) for x, y in piece]
+
+
+def fits(piece):
+    return all(abs(x) <= LIMIT and abs(y) <= LIMIT for x, y in piece)
+
+
+def numbers(piece):
+    return [z for corner in piece for z in corner]
+
+
+def small(random):
+    reach = random.one_of([1, 2, 3, 4, 6, 10])
+    return from_points(random, reach, random.between(3, 14))
+
+
+def middling(random):
+    return from_edges(random, random.between(3, 24), random.one_of([3, 10, 100, 600]))
+
+
+def large(random):
+    return from_points(random, LIMIT, random.between(3, 20))
+
+
+def beside(random, piece):
+    """A second outline, by its position to the first: apart, overlapping, nested, touching, the same, parallel."""
+    way = random.below(9)
+    reach = max(max(abs(x), abs(y)) for x, y in piece)
+    if way == 0:
+        return moved(small(random), reach + random.between(10, 40), random.between(-reach, reach))
+    if way == 1:
+        return moved(piece, random.between(-reach, reach), random.between(-reach, reach))
+    if way == 2:
+        return times(piece, random.between(2, 3))
+    if way == 3:
+        return moved(opposite(piece), random.between(-reach, reach), random.between(-2, 2))
+    if way == 4:
+        return piece[:]
+    if way == 5:
+        corner, other = random.one_of(piece), opposite(piece)
+        touching = random.one_of(other)
+        return moved(other, corner[0] - touching[0], corner[1] - touching[1])
+    if way == 6 and len(piece) > 3:
+        k = random.below(len(piece))
+        return piece[:k] + piece[k + 1:]
+    if way == 7:
+        return hull(piece + [(x + random.between(-1, 1), y + random.between(-1, 1)) for x, y in piece])
+    return from_points(random, max(reach, 1), random.between(3, 12))
+
+
+def near_tie(random):
+    """Two corners of A, over two edges of B, with the two greatest gaps, which differ by less than a part in 2^53.
+
+    The gaps are s²/L and t²/M. For edges of squared lengths L and M, s/t is a convergent of the root of L/M."""
+    while True:
+        b = [(0, -random.between(9000, 16000)), (random.between(5000, 9000), random.between(-500, 500)),
+             (-random.between(5000, 9000), random.between(-500, 500))]
+        runs = [(b[1][0] - b[0][0], b[1][1] - b[0][1]), (b[0][0] - b[2][0], b[0][1] - b[2][1])]
+        if any(gcd(*run) != 1 for run in runs):
+            continue
+        lengths = [dx * dx + dy * dy for dx, dy in runs]
+        for s, t in convergents(lengths[0], lengths[1]):
+            k = random.between(1, 40)
+            sides = (k * s, k * t)
+            corners = [over(b[0], runs[0], lengths[0], sides[0]), over(b[2], runs[1], lengths[1], sides[1])]
+            if None in corners:
+                continue
+            a = hull(corners + [(0, random.between(-2000, -500))])
+            x, y = s * s * lengths[1], t * t * lengths[0]
+            if len(a) == 3 and fits(a) and x != y and abs(x - y) << 53 < x and leads(a, b, corners):
+                return a, b
+
+
+def leads(a, b, corners):
+    """The greatest two gaps are on edges, and are those of two corners of A."""
+    comparing = Comparing(a, b)
+    both = sorted(range(len(a)), key=lambda i: a[i] not in corners)[:2]
+    rest = [(0, i) for i in range(len(a)) if i not in both] + [(1, i) for i in range(len(b))]
+    gaps = [comparing.nearest(0, i) for i in both]
+    return all(g.feature.startswith("edge") and all(comparing.nearest(*r).gap < g.gap for r in rest) for g in gaps)
+
+
+def convergents(upper, lower):
+    """Pairs s, t with s/t close to the root of upper/lower: the convergents of its continued fraction, of 10^4 to 10^8."""
+    found = []
+    root, scale = isqrt(upper * lower << 128), lower << 64
+    s, t, last_s, last_t = 1, 0, 0, 1
+    while scale and t < 10**8:
+        whole = root // scale
+        s, t, last_s, last_t = whole * s + last_s, whole * t + last_t, s, t
+        root, scale = scale, root - whole * scale
+        if 10**4 < t < 10**8:
+            found.append((s, t))
+    return found
+
+
+def over(start, run, length, side):
+    """A point strictly right of an edge, with this size of its side number and its foot between the ends, or None."""
+    dx, dy = run
+    x, y = bezout(dx, -dy)
+    x, y = -side * y, -side * x
+    along = (x * dx + y * dy) // length
+    for shift in (along, along - 1):
+        px, py = x - shift * dx, y - shift * dy
+        if 0 < px * dx + py * dy < length:
+            p = (start[0] + px, start[1] + py)
+            if fits([p]) and dx * py - dy * px == -side:
+                return p
+    return None
+
+
+def bezout(a, b):
+    """u, w with a·u + b·w = 1, of numbers without a common factor."""
+    u, w, next_u, next_w = 1, 0, 0, 1
+    while b:
+        whole = a // b
+        a, b = b, a - whole * b
+        u, w, next_u, next_w = next_u, next_w, u - whole * next_u, w - whole * next_w
+    return (u, w) if a == 1 else (-u, -w)
+
+
+def allowances(random, a, b):
+    n = (len(a) + len(b)) // 2
+    return sorted({0, 1, random.below(n + 2), random.below(n + 2), max(n - 1, 0), n, n + 1, MOST})
+
+
+SQUARE = [0, 0, 4, 0, 4, 4, 0, 4]
+TRIANGLE = [0, 0, 4, 0, 0, 4]
+FIRST = [-16000, -16000, -15999, -16000, -16000, -15999]
+LAST = [16000, 16000, 15999, 16000, 16000, 15999]
+STAR = [0, 3, -2, -3, 3, 1, -3, 1, 2, -3]
+LARGEST = [-16000, -16000, 16000, -16000, 16000, 16000, -16000, 16000]
+
+
+def worked():
+    """Document 01's worked fits, and refusals."""
+    shifted = [10, 0, 14, 0, 14, 4, 10, 4]
+    yield SQUARE, TRIANGLE, list(range(10)) + [512, MOST]
+    yield TRIANGLE, SQUARE, list(range(10))
+    yield SQUARE, shifted, list(range(11))
+    yield SQUARE, SQUARE, [0, 7, 8]
+    yield SQUARE, SQUARE[2:] + SQUARE[:2], [0, 7, 8]
+    yield FIRST, LAST, list(range(8))
+    yield LARGEST, SQUARE, [0, 4, 8]
+    beyond = LARGEST[:4] + [16001, 16000] + LARGEST[6:]
+    lists = [[], [0], [0] * 515, [0] * 514, [0, 0, 4, 0], STAR, [0, 0, 2, 0, 4, 0, 0, 3], [0, 0, 0, 4, 4, 0], beyond,
+             [0, 0, 4, 0, 4, 0, 0, 4], [0, 0, 4, 0, 4, 4, 0, 0], [2**31 - 1, -2**31] * 3, SQUARE]
+    for a in lists:
+        for b in lists:
+            yield a, b, [0, MOST]
+
+
+def generated(random):
+    for _ in range(1200):
+        a = small(random)
+        yield a, beside(random, a) if random.below(2) else small(random)
+    for _ in range(700):
+        a = middling(random)
+        yield a, beside(random, a) if random.below(3) else middling(random)
+    for _ in range(150):
+        yield large(random), large(random)
+    for _ in range(60):
+        a, b = near_tie(random)
+        yield (a, b) if random.below(2) else (b, a)
+    for count in (32, 63, 64, 100, 128, 200, 255, 256, 256, 256):
+        a = from_edges(random, count, 100)
+        yield a, from_edges(random, random.one_of([3, count, 256]), 100)
+        yield moved(a, random.between(-900, 900), 7), a
+
+
+def pairs():
+    random = Random(SEED)
+    yield from worked()
+    for a, b in generated(random):
+        a = numbers(from_corner(a, random.below(len(a))))
+        b = numbers(from_corner(b, random.below(len(b))))
+        if not (refusal(a) or refusal(b)) or random.below(8) == 0:
+            yield a, b, allowances(random, a, b)
+
+
+def main():
+    crate = Path(__file__).resolve().parent.parent / "crates" / "pairs"
+    with open(crate / "stdin", "w") as given, open(crate / "stdout", "w") as answers:
+        for a, b, steps in pairs():
+            for part in (a, b, steps):
+                print(len(part), *part, file=given)
+            print(*compare_all(a, b, steps), sep="\n", file=answers)
+
+
+if __name__ == "__main__":
+    main()

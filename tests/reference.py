@@ -1,0 +1,217 @@
+"""Comparing two outlines, from document 01 alone: whole numbers only, every corner against every edge.
+
+Written apart from the proved code, for comparison with it. `compare(a, b, allowance)` takes two lists of numbers and gives the text that
+the program `pairs` prints for them:
+    refused SIDE NUMBER [PLACE..]
+    spent STEPS A-CORNER B-CORNER none
+    spent STEPS A-CORNER B-CORNER SIDE CORNER FEATURE GAP X Y
+    done STEPS SIDE CORNER FEATURE GAP X Y CLEARANCE
+"""
+from functools import cmp_to_key
+from math import isqrt
+
+LIMIT = 16000
+
+
+def side_number(p, q, v):
+    return (q[0] - p[0]) * (v[1] - p[1]) - (q[1] - p[1]) * (v[0] - p[0])
+
+
+def dot(a, b):
+    return a[0] * b[0] + a[1] * b[1]
+
+
+def minus(q, p):
+    return (q[0] - p[0], q[1] - p[1])
+
+
+def edge(piece, i):
+    """Edge i runs from corner i to corner i + 1, the last back to corner 0."""
+    return piece[i], piece[(i + 1) % len(piece)]
+
+
+def corners(numbers):
+    return [(numbers[i], numbers[i + 1]) for i in range(0, len(numbers) - 1, 2)]
+
+
+def refusal(numbers):
+    """The number and the place of the refusal of a list, or None where it is accepted."""
+    if len(numbers) % 2 == 1:
+        return (1,)
+    piece = corners(numbers)
+    n = len(piece)
+    if n < 3:
+        return (2,)
+    if n > 256:
+        return (3,)
+    for i, (x, y) in enumerate(piece):
+        if not (-LIMIT <= x <= LIMIT and -LIMIT <= y <= LIMIT):
+            return (4, i)
+    for i in range(n):
+        p, q = edge(piece, i)
+        if p == q:
+            return (5, i)
+    for i in range(n):
+        p, q = edge(piece, i)
+        for c in range(n):
+            if c != i and c != (i + 1) % n and side_number(p, q, piece[c]) <= 0:
+                return (6, i, c)
+    return None
+
+
+class Fraction:
+    """Not reduced; compared by cross products."""
+
+    def __init__(self, upper, lower):
+        self.upper, self.lower = upper, lower
+
+    def __lt__(self, other):
+        return self.upper * other.lower < other.upper * self.lower
+
+    def __eq__(self, other):
+        return self.upper * other.lower == other.upper * self.lower
+
+    def __str__(self):
+        return f"{self.upper}/{self.lower}"
+
+
+class Nearest:
+    """The nearest feature of a piece to a corner, the gap, and the nearest point at x / lower, y / lower."""
+
+    def __init__(self, feature, gap, x, y, lower):
+        self.feature, self.gap, self.x, self.y, self.lower = feature, gap, x, y, lower
+
+
+def is_within(v, piece):
+    return all(side_number(*edge(piece, i), v) >= 0 for i in range(len(piece)))
+
+
+def nearest(v, piece):
+    """The trial for one corner: every corner and every edge of the other piece."""
+    if is_within(v, piece):
+        return Nearest("within", Fraction(0, 1), v[0], v[1], 1)
+    tried = []
+    for i, c in enumerate(piece):
+        to = minus(v, c)
+        tried.append(Nearest(f"corner {i}", Fraction(dot(to, to), 1), c[0], c[1], 1))
+    for i in range(len(piece)):
+        p, q = edge(piece, i)
+        run = minus(q, p)
+        length, t, s = dot(run, run), dot(minus(v, p), run), side_number(p, q, v)
+        if s < 0 and 0 < t < length:
+            x, y = length * p[0] + t * run[0], length * p[1] + t * run[1]
+            tried.append(Nearest(f"edge {i}", Fraction(s * s, length), x, y, length))
+    least = tried[0]
+    for one in tried[1:]:
+        if one.gap < least.gap:
+            least = one
+    return least
+
+
+def half(d):
+    return 0 if d[1] > 0 or (d[1] == 0 and d[0] > 0) else 1
+
+
+def turning_order(pieces):
+    """All edges of A (0) and B (1) as (side, number), by direction; at equal direction A's edge first."""
+
+    def later(one, two):
+        d, e = (minus(*reversed(edge(pieces[s], i))) for s, i in (one, two))
+        if half(d) != half(e):
+            return half(d) - half(e)
+        turn = d[0] * e[1] - d[1] * e[0]
+        return -turn if turn else one[0] - two[0]
+
+    edges = [(s, i) for s in (0, 1) for i in range(len(pieces[s]))]
+    return sorted(edges, key=cmp_to_key(later))
+
+
+def lies_on(point, p, q):
+    """A point at x / lower, y / lower lies on the edge from p to q, its ends included."""
+    x, y, lower = point
+    from_p = (x - lower * p[0], y - lower * p[1])
+    run = minus(q, p)
+    on_line = run[0] * from_p[1] - run[1] * from_p[0] == 0
+    return on_line and 0 <= dot(from_p, run) <= lower * dot(run, run)
+
+
+def counts(near, piece, touch):
+    """Not within, and the nearest point is the corner in touch or lies on one of the two edges that meet there."""
+    if near.feature == "within":
+        return False
+    point = (near.x, near.y, near.lower)
+    if (near.x, near.y) == (near.lower * piece[touch][0], near.lower * piece[touch][1]):
+        return True
+    return lies_on(point, *edge(piece, touch - 1)) or lies_on(point, *edge(piece, touch))
+
+
+class Comparing:
+    """An accepted pair, swept step by step."""
+
+    def __init__(self, a, b):
+        self.pieces = (a, b)
+        self.order = turning_order(self.pieces)
+        self.gaps = {}
+
+    def nearest(self, s, i):
+        if (s, i) not in self.gaps:
+            self.gaps[s, i] = nearest(self.pieces[s][i], self.pieces[1 - s])
+        return self.gaps[s, i]
+
+    def worse(self, one, two):
+        """Of two corners the one with the greater gap; of equals A's before B's, then the lower number."""
+        g, h = self.nearest(*one).gap, self.nearest(*two).gap
+        if g == h:
+            return min(one, two)
+        return two if g < h else one
+
+    def sweep(self, steps):
+        """The corners in touch and the worst so far, as (side, corner) or None, after some steps."""
+        touch = [next(i for t, i in self.order if t == s) for s in (0, 1)]
+        worst = None
+        for side, number in self.order[:steps]:
+            for s in (0, 1):
+                corner = (s, touch[s])
+                if counts(self.nearest(*corner), self.pieces[1 - s], touch[1 - s]):
+                    worst = corner if worst is None else self.worse(worst, corner)
+            touch[side] = (number + 1) % len(self.pieces[side])
+        return touch, worst
+
+    def trial(self):
+        """A's corners by number, then B's; a later one takes the place only if its gap is greater."""
+        worst = (0, 0)
+        for s in (0, 1):
+            for i in range(len(self.pieces[s])):
+                if self.nearest(*worst).gap < self.nearest(s, i).gap:
+                    worst = (s, i)
+        return worst
+
+    def named(self, corner):
+        near = self.nearest(*corner)
+        x, y = f"{near.x}/{near.lower}", f"{near.y}/{near.lower}"
+        return f"{'AB'[corner[0]]} {corner[1]} {near.feature} {near.gap} {x} {y}"
+
+    def report(self, allowance):
+        n = len(self.order)
+        touch, worst = self.sweep(min(allowance, n))
+        if allowance < n:
+            shown = "none" if worst is None else self.named(worst)
+            return f"spent {allowance} {touch[0]} {touch[1]} {shown}"
+        answer = (0, 0) if worst is None else worst
+        assert answer == self.trial(), "the sweep and the trial differ"
+        gap = self.nearest(*answer).gap
+        return f"done {n} {self.named(answer)} {isqrt(gap.upper // gap.lower)}"
+
+
+def compare_all(a, b, allowances):
+    """The texts for one pair of lists and several allowances."""
+    for side, numbers in (("A", a), ("B", b)):
+        found = refusal(numbers)
+        if found:
+            return [" ".join(map(str, ("refused", side) + found))] * len(allowances)
+    comparing = Comparing(corners(a), corners(b))
+    return [comparing.report(allowance) for allowance in allowances]
+
+
+def compare(a, b, allowance):
+    return compare_all(a, b, [allowance])[0]
