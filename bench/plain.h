@@ -96,9 +96,32 @@ static size_t lowest(const Corner *o, size_t n) {
     return found;
 }
 
+/* What a comparison that is done reports. */
+typedef struct {
+    size_t steps;
+    Gap answer;
+    uint64_t clearance;
+} Done;
+
+/* The largest whole number whose square is not above n. */
+static uint64_t root(uint64_t n) {
+    uint64_t r = 0;
+    for (uint64_t bit = (uint64_t)1 << 31; bit; bit >>= 1)
+        if ((r + bit) * (r + bit) <= n) r += bit;
+    return r;
+}
+
 static Gap zero_within(Corner v) { return (Gap){.kind = WITHIN, .gap = {0, 1}, .x = v.x, .y = v.y}; }
 
-static Gap plain_sweep(const Corner *a, size_t n, const Corner *b, size_t m) {
+/* The worse of A's and B's or, where both are none, A's corner 0, within. */
+static Gap overall(Worst a, Worst b, Corner first) {
+    if (!a.is_some && !b.is_some) return zero_within(first);
+    if (!a.is_some) return b.gap;
+    if (!b.is_some) return a.gap;
+    return less(a.gap.gap, b.gap.gap) ? b.gap : a.gap;
+}
+
+static Done plain_sweep(const Corner *a, size_t n, const Corner *b, size_t m) {
     size_t i = lowest(a, n), j = lowest(b, m), left_a = n, left_b = m;
     Worst worst_a = {0}, worst_b = {0};
     for (size_t k = 0; k < n + m; k++) {
@@ -112,10 +135,8 @@ static Gap plain_sweep(const Corner *a, size_t n, const Corner *b, size_t m) {
             left_a--;
         }
     }
-    if (!worst_a.is_some && !worst_b.is_some) return zero_within(a[0]);
-    if (!worst_a.is_some) return worst_b.gap;
-    if (!worst_b.is_some) return worst_a.gap;
-    return less(worst_a.gap.gap, worst_b.gap.gap) ? worst_b.gap : worst_a.gap;
+    Gap answer = overall(worst_a, worst_b, a[0]);
+    return (Done){n + m, answer, root(answer.gap.upper / answer.gap.lower)};
 }
 
 static int is_within(Corner v, const Corner *o, size_t n) {

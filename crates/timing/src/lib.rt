@@ -1,7 +1,6 @@
 // Calls for the benchmarks under bench/, which link them from C. `points` gives x and y of each point. Each answers the greatest
 // upper number of a gap, so that no work can be left out.
 use hausdorff::Comparison;
-use hausdorff::Report;
 use nearest::NearestAnswer;
 use outline::Outline;
 use outline::RefusedSide;
@@ -97,43 +96,20 @@ pub extern "C" fn timing_compare(a: &[i32], b: &[i32], turns: u32) -> u64 {
     greatest
 }
 
-// The upper number of the gap that the core reports, or 0 where it is spent.
-fn swept(a: Outline, b: Outline, allowance: u32) -> u64
-    requires { ⌜ IsOutline a ⌝ }
-    requires { ⌜ IsOutline b ⌝ }
-{
-    match sweep::compare(a, b, allowance) {
-        Report::Spent(_) => 0,
-        Report::Done(done) => done.answer.gap.upper,
-    }
+// How many corners a list gives, or 0 where it is refused.
+fn read(s: &[i32]) -> u64 {
+    let reading = outline::read(s, RefusedSide::NoSide);
+    reading.outline.count as u64
 }
 
-// The core for two outlines that are held, some times over.
-fn each_swept(a: Outline, b: Outline, turns: u32) -> u64
-    requires { ⌜ IsOutline a ⌝ }
-    requires { ⌜ IsOutline b ⌝ }
-{
+// What the call for two lists does before it compares them: reading both, some times over.
+#[no_mangle]
+pub extern "C" fn timing_read(a: &[i32], b: &[i32], turns: u32) -> u64 {
     let mut greatest = 0;
     let mut i = 0;
     while i < turns {
-        greatest = greater(greatest, swept(a, b, enough(i)));
+        greatest = greater(greatest, greater(read(a), read(b)));
         i += 1;
     }
     greatest
-}
-
-// The core for two lists, some times over: both are read once.
-#[no_mangle]
-pub extern "C" fn timing_sweep(a: &[i32], b: &[i32], turns: u32) -> u64 {
-    let reada = outline::read(a, RefusedSide::A);
-    let verdicta = reada.verdict;
-    if let Verdict::Refused(_) = verdicta {
-        return 0;
-    }
-    let readb = outline::read(b, RefusedSide::B);
-    let verdictb = readb.verdict;
-    if let Verdict::Refused(_) = verdictb {
-        return 0;
-    }
-    each_swept(reada.outline, readb.outline, turns)
 }

@@ -1,9 +1,9 @@
--- `timing::each_swept` makes its turns.
+-- `timing::timing_read` makes its turns.
 use borrow.Author.Needs.{needs}
 use native.Mathlib.Omega.{arith}
 use Prim.Native.Nat.{_-_}
-use Rattle.timing.proofs.each_swept.Statement.{statement}
-use Rattle.timing.proofs.each_swept.Tie as tie
+use Rattle.timing.proofs.timing_read.Statement.{statement}
+use Rattle.timing.proofs.timing_read.Tie as tie
 
 abbrev Inv-loop : tie.InvT-loop
 Inv-loop a b turns greatest₀ i₀ greatest i = Unit {0}
@@ -14,14 +14,17 @@ abbrev μ-loop : tie.MeasureT-loop
 loop-holds : tie.Need-loop-holds Inv-loop μ-loop
 loop-holds c = tt
 
-enough-requires : tie.Need-enough-requires Inv-loop μ-loop
-enough-requires c κs = search needs
+read-requires : tie.Need-read-requires Inv-loop μ-loop
+read-requires c κs = search needs
 
-swept-requires : tie.Need-swept-requires Inv-loop μ-loop
-swept-requires c κs = search needs
+read-requires-2 : tie.Need-read-requires-2 Inv-loop μ-loop
+read-requires-2 c κs = search needs
 
 greater-requires : tie.Need-greater-requires Inv-loop μ-loop
 greater-requires c κs = search needs
+
+greater-requires-2 : tie.Need-greater-requires-2 Inv-loop μ-loop
+greater-requires-2 c κs = search needs
 
 add-i : tie.Need-add-i Inv-loop μ-loop
 add-i c = omega arith
@@ -35,16 +38,17 @@ loop-again c = tt
 returns : tie.Need-returns Inv-loop μ-loop
 returns c = search needs
 
-pub each-swept-spec : {M : Type 1} → statement M
-each-swept-spec =
+pub timing-read-spec : {M : Type 1} → statement M
+timing-read-spec =
     tie.close
     (tie.spec
     Inv-loop
     μ-loop
     loop-holds
-    enough-requires
-    swept-requires
+    read-requires
+    read-requires-2
     greater-requires
+    greater-requires-2
     add-i
     loop-less
     loop-again
