@@ -1,5 +1,5 @@
-// Calls for the benchmarks under bench/, which link them from C. `points` gives x and y of each point. Each answers the greatest
-// upper number of a gap, so that no work can be left out.
+// Calls for the benchmarks under bench/, which link them from C. `points` gives x and y of each point. Each answers a number that
+// depends on all its work, so that none can be left out.
 use hausdorff::Comparison;
 use nearest::NearestAnswer;
 use outline::Outline;
@@ -79,7 +79,7 @@ fn compared(a: &[i32], b: &[i32], allowance: u32) -> u64 {
     }
 }
 
-// More steps than any comparison makes, and not twice the same number: each turn is another call.
+// More steps than any comparison makes, and another number than in the turn before: no two turns in a row are the same call.
 fn enough(turn: u32) -> u32 {
     1000 + turn % 1000
 }
