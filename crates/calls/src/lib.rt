@@ -14,7 +14,7 @@ ghost use Rattle.outline.specs.declared.RefusedSide.the-variants.{NoSide};
 ghost use Rattle.outline.specs.Reading.{reading};
 ghost use Rattle.edit.specs.Removal.{removalVerdict, listAfter};
 ghost use Rattle.nearest.specs.Call.{nearestAnswer};
-ghost use Rattle.hausdorff.specs.Call.{comparison, Compares};
+ghost use Rattle.hausdorff.specs.Call.{comparison, IsComparison};
 
 // Reads the outline that the list `s` gives: x and y of corner 0, then of corner 1, and so on.
 // Refusals 1 to 6; the outline read then has no corners.
@@ -56,21 +56,22 @@ pub fn nearest_point(v: Corner, s: &[i32]) -> NearestAnswer
 
 // Compares the outlines that the lists `a` and `b` give, in at most `allowance` steps.
 // Refusals 1 to 6 for A, then 1 to 6 for B. Being spent is no refusal.
+// The two promises say the same: once as an equation, and once in document 01's words, from which a caller reads off what holds.
 pub fn compare(a: &[i32], b: &[i32], allowance: u32) -> Comparison
     ensures answer { λ r. ⌜ r ≡ comparison (now (a .entry)) (now (b .entry)) allowance ⌝ }
-    ensures law { λ r. ⌜ Compares (now (a .entry)) (now (b .entry)) allowance r ⌝ }
+    ensures law { λ r. ⌜ IsComparison (now (a .entry)) (now (b .entry)) allowance r ⌝ }
 {
-    let reada = outline::read(a, RefusedSide::A);
-    let verdicta = reada.verdict;
-    if let Verdict::Refused(refusal) = verdicta {
+    let reading_a = outline::read(a, RefusedSide::A);
+    let verdict_a = reading_a.verdict;
+    if let Verdict::Refused(refusal) = verdict_a {
         return Comparison::Refused(refusal);
     }
-    let readb = outline::read(b, RefusedSide::B);
-    let verdictb = readb.verdict;
-    if let Verdict::Refused(refusal) = verdictb {
+    let reading_b = outline::read(b, RefusedSide::B);
+    let verdict_b = reading_b.verdict;
+    if let Verdict::Refused(refusal) = verdict_b {
         return Comparison::Refused(refusal);
     }
-    match sweep::compare(reada.outline, readb.outline, allowance) {
+    match sweep::compare(reading_a.outline, reading_b.outline, allowance) {
         Report::Spent(spent) => Comparison::Spent(spent),
         Report::Done(done) => Comparison::Done(done),
     }

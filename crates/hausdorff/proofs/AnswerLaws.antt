@@ -15,7 +15,7 @@ use Rattle.outline.specs.Corners.{corner}
 use Rattle.plane.specs.Point.{whole}
 use Rattle.nearest.specs.declared.Feature.{Feature}
 use Rattle.nearest.specs.Piece.{InPiece}
-use Rattle.nearest.specs.Feature.{values}
+use Rattle.nearest.specs.Feature.{values, withinValues}
 use Rattle.nearest.proofs.AnswerLaws.{within-iff, gap-zero-iff}
 use Rattle.nearest.proofs.SearchLaws.{search-nearest}
 use Rattle.hausdorff.specs.declared.CornerGap.{CornerGap}
@@ -27,7 +27,7 @@ use Rattle.hausdorff.specs.Pair.{Pair, other, stepCount, Polygons}
 use Rattle.hausdorff.specs.CornerGap.{named, cornerGap, worse}
 use Rattle.hausdorff.specs.Worst.{shownNumber, overall}
 use Rattle.hausdorff.specs.Sweep.{after}
-use Rattle.hausdorff.specs.Report.{answer, zeroWithin, orZeroWithin}
+use Rattle.hausdorff.specs.Report.{answer, orWithin}
 use Rattle.hausdorff.specs.Exhaustive.{searched, tryCorners, exhaustive}
 use Rattle.hausdorff.specs.Answer.{IsGap, NotLater, IsAnswer, Leads}
 use Rattle.hausdorff.proofs.Preference.{preferred-refl}
@@ -92,7 +92,7 @@ module _ (pair : Pair) (polygons : Polygons pair) where
 
   -- the worse of what leads on A and on B is the overall worst, or A's corner 0, within
   worse-overall : (a b : WorstSoFar) → SideWorst pair A a → SideWorst pair B b
-      → worse (orFirst pair A a) (orFirst pair B b) ≡ orZeroWithin pair (overall a b)
+      → worse (orFirst pair A a) (orFirst pair B b) ≡ orWithin (corner (pair A) 0) (overall a b)
   worse-overall None None p q =
       worse-first (cornerGap pair A 0) (cornerGap pair B 0) (least-iff pair polygons B A 0 0 (p 0 (nonempty A)) .1 (q 0 (nonempty B)))
       ∙ ap (λ (f : Feature). named A 0 (values (pair B) (corner (pair A) 0) f))
@@ -104,7 +104,8 @@ module _ (pair : Pair) (polygons : Polygons pair) where
   worse-overall (Worst a) (Worst b) p q = refl
 
   -- so that is the answer
-  overall-answers : (a b : WorstSoFar) → SideWorst pair A a → SideWorst pair B b → IsAnswer pair (orZeroWithin pair (overall a b))
+  overall-answers : (a b : WorstSoFar) → SideWorst pair A a → SideWorst pair B b
+      → IsAnswer pair (orWithin (corner (pair A) 0) (overall a b))
   overall-answers a b p q = rw (worse-overall a b p q) at
       (sides-answer (orFirst pair A a) (orFirst pair B b) (side-leads A a p) (side-leads B b q))
 
@@ -113,7 +114,7 @@ module _ (pair : Pair) (polygons : Polygons pair) where
       (side-worst pair polygons A) (side-worst pair polygons B)
 
   -- every corner is within
-  pub zero-answer : ((w : CornerGap) → IsGap pair w → w .gap .upper ≡ 0) → IsAnswer pair (zeroWithin pair)
+  pub zero-answer : ((w : CornerGap) → IsGap pair w → w .gap .upper ≡ 0) → IsAnswer pair (named A 0 (withinValues (corner (pair A) 0)))
   zero-answer none = overall-answers None None (within A) (within B)
     where
       within : (s : Side) → SideWorst pair s None

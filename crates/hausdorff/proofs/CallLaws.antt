@@ -1,26 +1,23 @@
 -- The call that compares, as its callers see it.
 --     law-unique                      the law of demand 3 leaves one report
---     compares                        what the call gives is as document 01 lays down: a refusal for the first fault of A's list, or
+--     is-comparison                   what the call gives is as document 01 lays down: a refusal for the first fault of A's list, or
 --                                     else of B's, or else a report that obeys the law
---     compares-unique                 and nothing else is
+--     comparison-unique               and nothing else is
 -- For the code, by what reading the lists gives:
 --     call-asks                       a list is taken: what the steps ask of the outline
 --     call-unread-a, call-unread-b    A's list is refused; A's is taken and B's refused
 --     call-reported                   both are taken: what the call gives of the steps' report
 --     call-promises                   what it gives has both parts of its contract
 use Prim.Native.Nat.{ℕ}
-use mathlib.Core.Path.{_≡_, refl, sym, ap, _∙_}
-use mathlib.Core.Logic.{_↔_, Iff·trans, Iff·and}
+use mathlib.Core.Path.{_≡_, refl, sym, _∙_}
 use mathlib.Core.Bool.{Bool, true, false}
 use mathlib.Core.List.{List}
-use native.Mathlib.Omega.{arith}
 use borrow.Author.Tests.{ltb-true, ltb-false}
 use lib.Dec.{ltb}
 use lib.IntN.{ℤ}
 use Rattle.plane.specs.declared.Corner.{Corner}
 use Rattle.outline.specs.declared.Check.{Check}
 use Rattle.outline.specs.declared.Check.the-variants.{Passed, Failed}
-use Rattle.outline.specs.declared.Fault.{Fault}
 use Rattle.outline.specs.declared.Reading.{Reading}
 use Rattle.outline.specs.declared.Refusal.{Refusal}
 use Rattle.outline.specs.declared.RefusedSide.{RefusedSide}
@@ -29,19 +26,18 @@ use Rattle.outline.specs.declared.Verdict.the-variants.{Taken, Refused as NotTa
 use Rattle.outline.specs.Convex.{Accepted, IsOutline}
 use Rattle.outline.specs.Corners.{corners, cornersOf}
 use Rattle.outline.specs.Reading.{check, reading}
-use Rattle.outline.specs.Refusal.{refusal, verdict}
+use Rattle.outline.specs.Refusal.{verdict}
 use Rattle.outline.proofs.Acceptance.{accepted, first-stands}
 use Rattle.outline.proofs.ReadingLaws.{reading-outline, reading-cornersOf}
-use Rattle.outline.proofs.RefusalLaws.{refusal-injective, verdict-taken}
+use Rattle.outline.proofs.RefusalLaws.{verdict-taken}
 use Rattle.hausdorff.specs.declared.Side.the-variants.{A as SideA, B as SideB}
 use Rattle.hausdorff.specs.declared.Report.{Report}
-use Rattle.hausdorff.specs.declared.Report.the-variants.{Spent as ReportSpent, Done as ReportDone}
 use Rattle.hausdorff.specs.declared.Comparison.{Comparison}
 use Rattle.hausdorff.specs.declared.Comparison.the-variants.{Refused}
 use Rattle.hausdorff.specs.Pair.{Pair, AcceptedPair, both, stepCount}
 use Rattle.hausdorff.specs.Report.{report}
 use Rattle.hausdorff.specs.Law.{Law}
-use Rattle.hausdorff.specs.Call.{compared, comparisonFor, comparison, AcceptedList, Compares}
+use Rattle.hausdorff.specs.Call.{ofReport, comparisonFor, comparison, AcceptedList, IsComparison, refused-a, refused-b, reported}
 use Rattle.hausdorff.proofs.Law.{law}
 
 -- spent or done by the allowance, and then as laid down
@@ -55,15 +51,6 @@ law-unique {pair} {allowance} {r} {q} one other = go (ltb allowance (stepCount p
 both-accepted : (ps qs : List Corner) → Accepted ps → Accepted qs → AcceptedPair (both ps qs)
 both-accepted ps qs ok-a ok-b SideA = ok-a
 both-accepted ps qs ok-a ok-b SideB = ok-b
-
--- a report is no refusal
-not-refused : (report : Report) {r : Refusal} → ¬ (compared report ≡ Refused r)
-not-refused (ReportSpent spent) e = let z : _≡_ {A = ℕ} 0 1 = cc in omega arith
-not-refused (ReportDone done) e = let z : _≡_ {A = ℕ} 0 1 = cc in omega arith
-
--- a refusal names one side
-sides-differ : (f g : Fault) → ¬ (refusal A f ≡ refusal B g)
-sides-differ f g e = let sides = ap (λ (r : Refusal). r .side) e in let z : _≡_ {A = ℕ} 0 1 = cc in omega arith
 
 -- a list that is read and taken, on either side
 module _ (whose : RefusedSide) (s : List ℤ) {o : Reading} (is-read : o ≡ reading whose s) (taken : o .verdict ≡ Taken) where
@@ -86,40 +73,26 @@ module _ (s t : List ℤ) (allowance : ℕ) where
   obeys : AcceptedList s → AcceptedList t → Law (both (corners s) (corners t)) allowance reports
   obeys ok-a ok-b = law _ (both-accepted _ _ (ok-a .1) (ok-b .1)) allowance
 
-  -- a refusal with side A comes exactly where the checks of A's list fail so
-  for-a : (c d : Check) (f : Fault) → (comparisonFor s t allowance c d ≡ Refused (refusal A f)) ↔ (c ≡ Failed f)
-  for-a (Failed g) d f = (λ e. ap Failed (refusal-injective A (cc)), λ e. cc)
-  for-a Passed (Failed g) f = (λ e. absurd (sides-differ f g (cc)), λ e. cc)
-  for-a Passed Passed f = (λ e. absurd (not-refused reports e), λ e. cc)
-
-  -- and one with side B where those pass and the checks of B's list fail so
-  for-b : (c d : Check) (f : Fault)
-      → (comparisonFor s t allowance c d ≡ Refused (refusal B f)) ↔ ((c ≡ Passed) × (d ≡ Failed f))
-  for-b (Failed g) d f = (λ e. absurd (sides-differ g f (cc)), λ h. cc)
-  for-b Passed (Failed g) f = (λ e. (refl, ap Failed (refusal-injective B (cc))), λ h. cc)
-  for-b Passed Passed f = (λ e. absurd (not-refused reports e), λ h. cc)
-
-  pub compares : Compares s t allowance (comparison s t allowance)
-  compares = record {
-    refused-a = λ f. Iff·trans (for-a (check s) (check t) f) (first-stands s f);
-    refused-b = λ f. Iff·trans (for-b (check s) (check t) f) (Iff·and (accepted s) (first-stands t f));
-    reported = λ ok-a ok-b. (reports, rw (accepted s .1 ok-a, accepted t .1 ok-b), obeys ok-a ok-b);
-  }
-
-  -- a list has a first fault or is accepted, so each case of the checks leaves one result
-  pub compares-unique : {result : Comparison} → Compares s t allowance result → result ≡ comparison s t allowance
-  compares-unique {result} given = go (check s) (check t) refl refl
+  -- a list has a first fault or is accepted
+  pub is-comparison : IsComparison s t allowance (comparison s t allowance)
+  is-comparison = go (check s) (check t) refl refl
     where
-      go : (c d : Check) → check s ≡ c → check t ≡ d → result ≡ comparisonFor s t allowance c d
-      go (Failed f) d fails-a is = given .refused-a f .1 (first-stands s f .0 fails-a)
-      go Passed (Failed g) passes-a fails-b = given .refused-b g .1 (accepted s .0 passes-a, first-stands t g .0 fails-b)
+      go : (c d : Check) → check s ≡ c → check t ≡ d → IsComparison s t allowance (comparisonFor s t allowance c d)
+      go (Failed f) d fails-a is = refused-a f (first-stands s f .0 fails-a) refl
+      go Passed (Failed g) passes-a fails-b = refused-b g (accepted s .0 passes-a) (first-stands t g .0 fails-b) refl
       go Passed Passed passes-a passes-b =
-          let ok-a = accepted s .0 passes-a in let ok-b = accepted t .0 passes-b in
-          let (_, is, lawful) = given .reported ok-a ok-b in is ∙ ap compared (law-unique lawful (obeys ok-a ok-b))
+          let ok-a = accepted s .0 passes-a in let ok-b = accepted t .0 passes-b in reported reports ok-a ok-b (obeys ok-a ok-b) refl
+
+  -- each case tells what the checks find, and so leaves one result
+  pub comparison-unique : {result : Comparison} → IsComparison s t allowance result → result ≡ comparison s t allowance
+  comparison-unique (refused-a f first is) = rw (is, first-stands s f .1 first)
+  comparison-unique (refused-b g ok-a first is) = rw (is, accepted s .1 ok-a, first-stands t g .1 first)
+  comparison-unique (reported r ok-a ok-b lawful is) =
+      rw (is, accepted s .1 ok-a, accepted t .1 ok-b, law-unique lawful (obeys ok-a ok-b))
 
   pub call-promises : {result : Comparison} → result ≡ comparison s t allowance
-      → (result ≡ comparison s t allowance) × Compares s t allowance result
-  call-promises is = (is, rw is compares)
+      → (result ≡ comparison s t allowance) × IsComparison s t allowance result
+  call-promises is = (is, rw is is-comparison)
 
   -- the refusal that reading A's list gives is the call's, whatever B's list is
   refused-first : (c d : Check) {r : Refusal} → verdict A c ≡ NotTaken r → Refused r ≡ comparisonFor s t allowance c d
@@ -140,7 +113,7 @@ module _ (s t : List ℤ) (allowance : ℕ) where
       call-unread-b not-taken = rw (passes A s is-a taken-a) (refused-second (check t) (rw is-b at not-taken))
 
       pub call-reported : {r : Report} → q .verdict ≡ Taken
-          → r ≡ report (both (cornersOf (o .outline)) (cornersOf (q .outline))) allowance → compared r ≡ comparison s t allowance
+          → r ≡ report (both (cornersOf (o .outline)) (cornersOf (q .outline))) allowance → ofReport r ≡ comparison s t allowance
       call-reported taken-b is =
           let at-a = cornersOf-read A s is-a taken-a in let at-b = cornersOf-read B t is-b taken-b in
           rw (is, at-a, at-b, passes A s is-a taken-a, passes B t is-b taken-b)

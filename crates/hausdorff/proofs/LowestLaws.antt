@@ -1,6 +1,5 @@
 -- Where the sweep begins.
---     LowestLeftmost    a corner is the lowest, of several the leftmost
---     begins-lowest     before step 1 the support corner of an outline is its lowest, then leftmost corner
+--     begins-lowest    before step 1 the support corner of an outline is its lowest, then leftmost corner
 use Prim.Native.Nat.{ℕ, _<_}
 use mathlib.Core.Path.{_≡_, refl, sym, _∙_}
 use mathlib.Core.Logic.{_⊎_, inl, inr, _↔_, _≢_}
@@ -18,7 +17,7 @@ use Rattle.plane.specs.declared.Vector.{Vector}
 use Rattle.plane.specs.Vector.{_⇀_, cross, side, coordinates}
 use Rattle.plane.proofs.Algebra.{O, vec, crossE, _⇀E_, sideE, components, cross-back}
 use Rattle.outline.specs.Convex.{Polygon}
-use Rattle.outline.specs.Corners.{corner, next, previous}
+use Rattle.outline.specs.Corners.{next, previous}
 use Rattle.outline.proofs.CornersLaws.{next-below, next-other, previous-below, next-previous}
 use Rattle.nearest.specs.Piece.{edge}
 use Rattle.nearest.proofs.Support.{not-right, turns-on}
@@ -26,14 +25,10 @@ use Rattle.hausdorff.specs.declared.Side.{Side}
 use Rattle.hausdorff.specs.Pair.{Pair, Polygons}
 use Rattle.hausdorff.specs.AngularOrder.{angularOrder, own, headOr}
 use Rattle.hausdorff.specs.Sweep.{begin}
+use Rattle.hausdorff.specs.Lowest.{LowestLeftmost}
 use Rattle.plane.proofs.Halves.{Half, half, first-up}
 use Rattle.plane.proofs.DirectionLaws.{Before, across}
 use Rattle.hausdorff.proofs.OrderLaws.{polygons-go-round, own-members, own-rising}
-
-pub record LowestLeftmost (cs : List Corner) (i : ℕ) : Type 0 where
-  pub known : i < length cs
-  pub lowest : (j : ℕ) → j < length cs
-      → (corner cs i .y <ℤ corner cs j .y) ⊎ ((corner cs i .y ≡ corner cs j .y) × (corner cs i .x ≤ℤ corner cs j .x))
 
 -- a turn left to a direction that comes before leads from the second half to the first: e falls and f does not
 falls : (e f : Vector) → pos 0 <ℤ cross e f → Before f e → (e .y <ℤ pos 0) × (pos 0 ≤ℤ f .y)

@@ -32,7 +32,8 @@ use Rattle.hausdorff.specs.AngularOrder.{consIf, own, headOr}
 use Rattle.plane.proofs.Halves.{NonZero}
 use Rattle.plane.proofs.DirectionLaws.{Before, before-asym, before-trans, before-split, same-iff, Along}
 use Rattle.hausdorff.proofs.GoesRound.{GoesRound, polygon-goes-round}
-use Rattle.hausdorff.proofs.SortLaws.{related-cons, related-map, arranged-member, arranged-length, sort-arranges, Sorted, sort-sorted}
+use Rattle.hausdorff.proofs.SortLaws.{related-cons, related-map, arranged-member, arranged-length}
+use Rattle.hausdorff.proofs.SortLaws.{sort-arranges, Sorted, sort-sorted}
 use Rattle.hausdorff.proofs.Cyclic.{Rising, Cyclic, rising-cyclic}
 
 abbrev pub Rounds : Pair → Type 0

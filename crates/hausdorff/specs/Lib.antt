@@ -8,6 +8,7 @@ pub mod AngularOrder
 pub mod Counting
 pub mod Worst
 pub mod Sweep
+pub mod Lowest
 pub mod Counted
 pub mod Report
 pub mod Law

@@ -1,5 +1,5 @@
--- Two outlines that are compared, A and B. A pair is a function that gives the corners of each side, so that what is done both ways is
--- written once.
+-- Two outlines that are compared, A and B.
+--     Pair            a function that gives the corners of each side, so that what is done both ways is written once
 --     both            the pair of two corner lists
 --     other           the other side
 --     sameSide        the test whether two sides are one

@@ -1,8 +1,7 @@
 -- Document 01: what a comparison of two accepted outlines gives for a step allowance.
 --     IsClearance    the clearance figure of a gap: the largest whole number whose square is not above it
 --     clearance      that number
---     zeroWithin     A's corner 0, within
---     orZeroWithin   a worst so far, or that
+--     orWithin       a worst so far or, if it is none, A's corner 0, at `first`, within
 --     answer         the worst so far after step N, or A's corner 0, within, if that is none
 --     spent, done    the two reports
 --     report         spent if the allowance is below N, otherwise done
@@ -11,6 +10,7 @@ use mathlib.Core.Bool.{cond}
 use lib.Dec.{ltb}
 use Rattle.integers.specs.declared.fraction.Fraction.{Fraction}
 use Rattle.integers.specs.Root.{root, FloorRoot}
+use Rattle.plane.specs.declared.Corner.{Corner}
 use Rattle.outline.specs.Corners.{corner}
 use Rattle.nearest.specs.Feature.{withinValues}
 use Rattle.hausdorff.specs.declared.Side.the-variants.{A, B}
@@ -32,15 +32,12 @@ IsClearance g m = FloorRoot g m
 abbrev pub clearance : Fraction → ℕ
 clearance g = root (g .upper / g .lower)
 
-abbrev pub zeroWithin : Pair → CornerGap
-zeroWithin pair = named A 0 (withinValues (corner (pair A) 0))
-
-abbrev pub orZeroWithin : Pair → WorstSoFar → CornerGap
-orZeroWithin pair None = zeroWithin pair
-orZeroWithin pair (Worst w) = w
+abbrev pub orWithin : Corner → WorstSoFar → CornerGap
+orWithin first None = named A 0 (withinValues first)
+orWithin first (Worst w) = w
 
 abbrev pub answer : Pair → CornerGap
-answer pair = orZeroWithin pair (worstSoFar pair (stepCount pair))
+answer pair = orWithin (corner (pair A) 0) (worstSoFar pair (stepCount pair))
 
 -- the steps made (equal to the allowance), both support corners (document 01: corners in touch), and the worst so far or none
 abbrev pub spent : Pair → ℕ → Spent

@@ -1,10 +1,10 @@
--- Laws of the order of fractions, and of the digits that decide it, over plain natural numbers.
+-- Laws of the order of fractions, and of the parts that decide it, over plain natural numbers.
 --     Means o x y            what the answer o says of x and y
 --     order-iff              `order x y` is Less exactly when x < y, Equal exactly when x ≡ y, Greater exactly when y < x;
 --                            its two halves are order-means and order-unique
 --     swap, order-swap       exchanging the two numbers exchanges Less and Greater
---     then, order-digits     the key: two numbers' digits in base 2^32, the high ones first, decide as the numbers do
---     product-digits         the digits of a product, as `product` computes them
+--     then, order-by-parts   the key: two numbers' high parts and then their low parts, of 32 bits, decide as the numbers do
+--     product-parts          the parts of a product, as `product` computes them
 --     low-fits, high-fits    what it computes fits 64 bits
 use mathlib.Core.Path.{_≡_, refl, sym, subst}
 use mathlib.Core.Logic.{_↔_}
@@ -15,7 +15,7 @@ use native.Mathlib.Decide.{decLt}
 use borrow.Author.Tests.{lt-ltb, le-ltb}
 use lib.Dec.{lit<}
 use Rattle.integers.specs.Fraction.{order}
-use Rattle.integers.specs.declared.fraction.Digits.{Digits}
+use Rattle.integers.specs.declared.fraction.Parts.{Parts}
 use Rattle.integers.specs.declared.fraction.Order.{Order}
 use Rattle.integers.specs.declared.fraction.Order.the-variants.{Less, Equal, Greater}
 
@@ -76,10 +76,10 @@ then Less o = Less
 then Equal o = o
 then Greater o = Greater
 
--- The key. A cross product may need 96 bits, and this law is why it need not be held in one number: high digits that differ decide, and
--- where they are equal only the low digits are left to compare.
-pub order-digits : (m n : ℕ) → order m n ≡ then (order (m / 2 ^ 32) (n / 2 ^ 32)) (order (m % 2 ^ 32) (n % 2 ^ 32))
-order-digits m n = by-high (order (m / 2 ^ 32) (n / 2 ^ 32)) (order-means _ _)
+-- The key. A cross product may need 96 bits, and this law is why it need not be held in one number: high parts that differ decide, and
+-- where they are equal only the low parts are left to compare.
+pub order-by-parts : (m n : ℕ) → order m n ≡ then (order (m / 2 ^ 32) (n / 2 ^ 32)) (order (m % 2 ^ 32) (n % 2 ^ 32))
+order-by-parts m n = by-high (order (m / 2 ^ 32) (n / 2 ^ 32)) (order-means _ _)
   where
     by-low : m / 2 ^ 32 ≡ n / 2 ^ 32 → (o : Order) → Means o (m % 2 ^ 32) (n % 2 ^ 32) → order m n ≡ o
     by-low same Less h = order-unique Less m n (omega arith)
@@ -91,26 +91,26 @@ order-digits m n = by-high (order (m / 2 ^ 32) (n / 2 ^ 32)) (order-means _ _)
     by-high Equal h = by-low h _ (order-means _ _)
     by-high Greater h = order-unique Greater m n (omega arith)
 
--- The product of two digits fits 64 bits, with room for a carry.
-digit-fits : {d e : ℕ} → d < 2 ^ 32 → e < 2 ^ 32 → d * e + 2 ^ 32 < 2 ^ 64
-digit-fits {d} {e} hd he = omega (arith, mul-le-mul-right e hd)
+-- The product of two numbers of 32 bits fits 64 bits, with room for a carry.
+carry-fits : {m n : ℕ} → m < 2 ^ 32 → n < 2 ^ 32 → m * n + 2 ^ 32 < 2 ^ 64
+carry-fits {m} {n} hm hn = omega (arith, mul-le-mul-right n hm)
 
--- The low digit's share of a product fits,
+-- The low part's share of a product fits,
 pub low-fits : (x : ℕ) {y : ℕ} → y < 2 ^ 32 → x % 2 ^ 32 * y < 2 ^ 64
-low-fits x small = omega (arith, digit-fits (mod-lt x (lit< tt)) small)
+low-fits x small = omega (arith, carry-fits (mod-lt x (lit< tt)) small)
 
--- and so does the high digit's, with what the other carries.
+-- and so does the high part's, with what the other carries.
 pub high-fits : {x y : ℕ} → x < 2 ^ 64 → y < 2 ^ 32 → x / 2 ^ 32 * y + x % 2 ^ 32 * y / 2 ^ 32 < 2 ^ 64
 high-fits {x} fits small =
     let top : x / 2 ^ 32 < 2 ^ 32 = omega arith in
-    omega (arith, digit-fits top small, low-fits x small)
+    omega (arith, carry-fits top small, low-fits x small)
 
--- x * y is the high digit's share times 2^32 and the low digit's share, whose own high digit is carried.
-pub product-digits :
+-- x * y is the high part's share times 2^32 and the low part's share, whose own high part is carried.
+pub product-parts :
     (x y : ℕ) →
-    _≡_ {A = Digits} record { high = x / 2 ^ 32 * y + x % 2 ^ 32 * y / 2 ^ 32; low = x % 2 ^ 32 * y % 2 ^ 32 }
+    _≡_ {A = Parts} record { high = x / 2 ^ 32 * y + x % 2 ^ 32 * y / 2 ^ 32; low = x % 2 ^ 32 * y % 2 ^ 32 }
     record { high = x * y / 2 ^ 32; low = x * y % 2 ^ 32 }
-product-digits x y =
+product-parts x y =
     let shares : x * y ≡ x / 2 ^ 32 * 2 ^ 32 * y + x % 2 ^ 32 * y = rw (← add-mul, div-add-mod' x (2 ^ 32)) in
     let high : x / 2 ^ 32 * y + x % 2 ^ 32 * y / 2 ^ 32 ≡ x * y / 2 ^ 32 = omega arith in
     let low : x % 2 ^ 32 * y % 2 ^ 32 ≡ x * y % 2 ^ 32 = omega arith in

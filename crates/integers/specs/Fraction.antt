@@ -2,7 +2,7 @@
 --     order x y    the three-way comparison of two natural numbers: Less, Equal or Greater
 --     isLess       a fraction is less than another, as values
 --     NotGreater   a fraction is not greater than another, as values
---     Bounded a    the bounds under which `compare` is exact in 64 bits
+--     Bounded a    a fraction that `compare` takes, since its cross products can be computed in 64 bits
 -- Fractions are compared by their cross products: n1 / d1 is to n2 / d2 as n1 * d2 is to n2 * d1, in unbounded numbers.
 use mathlib.Core.Bool.{Bool, cond}
 use Prim.Native.Nat.{ℕ, _^_, _*_, _<_, _≤_}
@@ -20,7 +20,8 @@ isLess a b = ltb (a .upper * b .lower) (b .upper * a .lower)
 abbrev pub NotGreater : Fraction → Fraction → Type 0
 NotGreater a b = a .upper * b .lower ≤ b .upper * a .lower
 
--- A cross product, of an upper number of 64 bits and a lower number of 32, is computed in two digits of base 2^32.
+-- `compare` needs only that the lower number is below 2^32: its product with an upper number of 64 bits is computed as a high part and a
+-- low part of 32 bits. That it is above 0 makes it a fraction.
 pub record Bounded (a : Fraction) : Type 0 where
   pub lower-positive : 0 < a .lower
   pub lower-fits : a .lower < 2 ^ 32

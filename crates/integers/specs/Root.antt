@@ -1,4 +1,6 @@
 -- The whole part of a square root.
+--     doubled      twice the root of n / 4, or one more: the root of n
+--     rootBy       the root of n, made so in at most `fuel` steps
 --     root         the largest whole number whose square is not above n
 --     FloorRoot    m is the largest whole number whose square is not above a fraction
 -- `proofs/RootLaws.antt` shows that `root` of a fraction's whole part is its FloorRoot.

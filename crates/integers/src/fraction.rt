@@ -27,30 +27,30 @@ fn compare_numbers(x: u64, y: u64) -> Order
     }
 }
 
-// The base of the digits, 2^32.
+// What one unit of a high part stands for, 2^32.
 const BASE: u64 = 4294967296;
 
-// A number of up to 96 bits as two digits: high * BASE + low.
-struct Digits {
+// A number of up to 96 bits as a high part, of up to 64 bits, and a low part of 32 bits: high * BASE + low.
+struct Parts {
     high: u64,
     low: u64,
 }
 
-// The digits of x * y, for a y of 32 bits: the products of y and each digit of x fit 64 bits.
-fn product(x: u64, y: u64) -> Digits
+// The parts of x * y, for a y of 32 bits: the products of y and each part of x, which has 32 bits, fit 64 bits.
+fn product(x: u64, y: u64) -> Parts
     requires { ⌜ y < 2 ^ 32 ⌝ }
     ensures { λ r. ⌜ r ≡ record { high = x * y / 2 ^ 32; low = x * y % 2 ^ 32 } ⌝ }
 {
     let low = x % BASE * y;
     let high = x / BASE * y + low / BASE;
-    Digits {
+    Parts {
         high,
         low: low % BASE,
     }
 }
 
-// The order of two fractions: exactly that of their cross products, with nothing lost to 64 bits. The high digits decide, and where
-// these are equal the low digits do.
+// The order of two fractions: exactly that of their cross products, with nothing lost to 64 bits. The high parts decide, and where
+// these are equal the low parts do.
 pub fn compare(a: Fraction, b: Fraction) -> Order
     requires { ⌜ Bounded a × Bounded b ⌝ }
     ensures { λ r. ⌜ r ≡ order (a .upper * b .lower) (b .upper * a .lower) ⌝ }

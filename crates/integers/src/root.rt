@@ -2,7 +2,8 @@
 ghost use mathlib.Core.Path.{_≡_};
 ghost use Rattle.integers.specs.Root.{root};
 
-// The largest number whose square is not above n: twice that of n / 4, or one more. At most 32 calls deep.
+// The largest number whose square is not above n: twice that of n / 4, or one more. It calls itself at most 32 times,
+// one inside the other.
 pub fn root(n: u64) -> u64
     ensures { λ r. ⌜ r ≡ root n ⌝ }
 {

@@ -41,9 +41,9 @@ use Rattle.measuring.specs.declared.Window.{Window}
 use Rattle.measuring.specs.declared.Near.{Near}
 use Rattle.measuring.specs.declared.Near.the-variants.{None, Corner as TheCorner, EdgeAfter, EdgeBefore}
 use Rattle.measuring.specs.declared.Near.the-variants.{CornerAfter, CornerBefore}
-use Rattle.measuring.specs.Window.{windowAt, Seen}
+use Rattle.measuring.specs.Window.{windowAt, IsWindow}
 use Rattle.measuring.specs.Near.{nearValues}
-use Rattle.measuring.specs.Improving.{BoundedWorst}
+use Rattle.measuring.specs.Changes.{BoundedWorst}
 
 -- a gap within, or to a corner, is over 1
 whole-bounded : (n : ℕ) → Bounded (record { upper = n; lower = 1 })
@@ -75,10 +75,10 @@ module _ {cs : List Corner} (ok : Accepted cs) where
   window-bounded b below v CornerAfter = whole-bounded _
   window-bounded b below v CornerBefore = whole-bounded _
 
-pub near-bounded : {w : Window} → Seen w → (v : Corner) (f : Near) → Bounded (nearValues v w f .gap)
-near-bounded {w} seen v f =
-    subst (λ (x : Window). Bounded (nearValues v x f .gap)) (sym (seen .equal))
-    (window-bounded (seen .accepted) (w .number) (seen .known) v f)
+pub near-bounded : {w : Window} → IsWindow w → (v : Corner) (f : Near) → Bounded (nearValues v w f .gap)
+near-bounded {w} window v f =
+    subst (λ (x : Window). Bounded (nearValues v x f .gap)) (sym (window .equal))
+    (window-bounded (window .accepted) (w .number) (window .known) v f)
 
 -- the worst so far is the gap of a corner to the other outline
 pub worst-bounded : (pair : Pair) → AcceptedPair pair → (k : ℕ) (s : Side) → BoundedWorst (after pair k .worst s)

@@ -2,4 +2,4 @@
 pub mod WindowLaws
 pub mod NearLaws
 pub mod GapSizes
-pub mod ImprovingLaws
+pub mod ChangesLaws

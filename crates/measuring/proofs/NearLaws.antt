@@ -1,14 +1,15 @@
 -- The tests of the two edges at a support corner find the nearest feature of a point, if the point counts.
---     forward, backward    the part of the edge after the support corner, and of the edge before it, that v is nearest to
---     near-counted         what they tell together is v's nearest feature, if v counts, and else none
---     near-seen            the same of a window that an accepted outline shows
--- The part of an edge says which of its local tests hold (`arm-means`). A point counts exactly where its nearest feature is at the support
+--     rightAfter, rightBefore    v is strictly right of the edge after the support corner, and of the edge before it
+--     partAfter, partBefore      the part of these edges that v is nearest to
+--     near-counted               what they tell together is v's nearest feature, if v counts, and else none
+--     near-window                the same of any window of an accepted outline
+-- The part of an edge says which of its local tests hold (`part-means`). A point counts exactly where its nearest feature is at the support
 -- corner, and only one feature has a local test that holds; so a part that is found is that feature, and if none is, the point does
 -- not count.
 use Prim.Native.Nat.{ℕ, _<_}
 use mathlib.Core.Path.{_≡_, refl, sym, ap, subst, _∙_}
-use mathlib.Core.Logic.{_↔_, inl, inr}
-use mathlib.Core.Bool.{Bool, true, false, cond, not, _&&_, true≢false, false≢true, and-false, and-comm}
+use mathlib.Core.Logic.{_↔_, Iff·rfl, inl, inr}
+use mathlib.Core.Bool.{Bool, true, false, cond, not, _&&_, _||_, true≢false, false≢true, and-true, and-false, and-comm, or-comm}
 use mathlib.Core.List.{List, [], _∷_}
 use native.Mathlib.Omega.{arith}
 use lib.IntN.{ℤ, pos, _-ℤ_}
@@ -16,35 +17,41 @@ use lib.ListN.{length}
 use lib.Signed.{leZ, ltZ, _<ℤ_}
 use Rattle.integers.proofs.Order.{leZ-not, ltZ-true, ltZ-false, <ℤ-ltZ, ≤ℤ-<ℤ-trans, <ℤ-sub, sub-<ℤ}
 use Rattle.integers.proofs.Polynomial.{_⊖_, solve}
-use Rattle.integers.proofs.Reflect.{test-same, test-false}
+use Rattle.integers.proofs.Reflect.{test-same, test-false, test-or}
 use Rattle.plane.specs.declared.Corner.{Corner}
 use Rattle.plane.specs.Vector.{_⇀_, cross, dot, side, same, coordinates}
-use Rattle.plane.proofs.Algebra.{O, vec, dotE, sideE, _⇀E_}
+use Rattle.plane.proofs.Algebra.{O, vec, dotE, sideE, _⇀E_, side-start, side-stop}
+use Rattle.plane.proofs.Tests.{same-true}
 use Rattle.outline.specs.Convex.{Polygon}
-use Rattle.outline.specs.Corners.{next, previous}
+use Rattle.outline.specs.Corners.{corner, next, previous}
 use Rattle.outline.proofs.Acceptance.{accepted-polygon}
 use Rattle.outline.proofs.CornersLaws.{next-below, previous-below, next-previous, previous-next}
 use Rattle.nearest.specs.declared.Feature.{Feature}
 use Rattle.nearest.specs.declared.Feature.the-variants.{Within, Corner as AtCorner, Edge as OnEdge}
 use Rattle.nearest.specs.declared.local.Part.{Part}
 use Rattle.nearest.specs.declared.local.Part.the-variants.{None, Start, Between, End}
-use Rattle.nearest.specs.Local.{along, squaredLength, footIsBetween, edgeIsNearest, isCorner, isEdge, Tested, feature}
+use Rattle.nearest.specs.Local.{along, squaredLength, isRight, footIsBetween, edgeIsNearest, isCorner, isEdge, Tested, feature}
 use Rattle.nearest.proofs.AnswerLaws.{feature-tested, feature-iff}
-use Rattle.nearest.proofs.LocalLaws.{length-above-0}
+use Rattle.nearest.proofs.LocalLaws.{length-above-0, corner-visible}
 use Rattle.hausdorff.proofs.CountingLaws.{counted-iff}
 use Rattle.hausdorff.proofs.Extreme.{AtSupport}
 use Rattle.measuring.specs.declared.Window.{Window}
-use Rattle.measuring.specs.Window.{windowAt, Seen}
+use Rattle.measuring.specs.declared.Near.the-variants.{None as NotNear, Corner as TheCorner}
+use Rattle.measuring.specs.Window.{windowAt, IsWindow}
 use Rattle.measuring.specs.Near.{countedFeature, featureOf}
-use Rattle.measuring.specs.Arm.{endIsNearest, armPart, byArms}
+use Rattle.measuring.specs.EdgePart.{isRightOf, endIsNearest, edgePart, cornerIf, byParts}
 
-abbrev pub forward : Corner → Window → Part
-forward v w =
-    armPart v (w .corner ⇀ v) (w .corner ⇀ w .after) (ltZ (side (w .corner) (w .after) v) (pos 0)) (w .after) (w .farafter)
+abbrev pub rightAfter : Corner → Window → Bool
+rightAfter v w = isRightOf true (w .corner ⇀ w .after) (w .corner ⇀ v)
 
-abbrev pub backward : Corner → Window → Part
-backward v w =
-    armPart v (w .corner ⇀ v) (w .corner ⇀ w .before) (ltZ (pos 0) (side (w .corner) (w .before) v)) (w .before) (w .farbefore)
+abbrev pub rightBefore : Corner → Window → Bool
+rightBefore v w = isRightOf false (w .corner ⇀ w .before) (w .corner ⇀ v)
+
+abbrev pub partAfter : Corner → Window → Part
+partAfter v w = edgePart v (w .corner ⇀ v) (w .corner ⇀ w .after) (rightAfter v w) true (w .after) (w .farafter)
+
+abbrev pub partBefore : Corner → Window → Part
+partBefore v w = edgePart v (w .corner ⇀ v) (w .corner ⇀ w .before) (rightBefore v w) false (w .before) (w .farbefore)
 
 -- ---- an edge, seen from its other end
 
@@ -102,35 +109,62 @@ Means tests End = tests .end ≡ true
 
 -- the tests that the code makes: the foot is past the support corner, it is before the other end, v is strictly right of the edge, and
 -- `endIsNearest`
-by-tests : (past before outside end : Bool) → (past ≡ false → before ≡ true)
-    → Means (record { edge = outside && (past && before); end = end && not before; start = not past })
-    (cond (not past) Start (cond before (cond outside Between None) (cond end End None)))
-by-tests false true outside end short = record { not-edge = and-false outside; not-end = and-false end; start-is = refl }
-by-tests false false outside end short = absurd (false≢true (short refl))
+by-tests : (past before right end : Bool) → (past ≡ false → before ≡ true)
+    → Means (record { edge = right && (past && before); end = end && not before; start = not past })
+    (cond (not past) Start (cond before (cond right Between None) (cond end End None)))
+by-tests false true right end short = record { not-edge = and-false right; not-end = and-false end; start-is = refl }
+by-tests false false right end short = absurd (false≢true (short refl))
 by-tests true true true end short = refl
 by-tests true true false end short = record { not-edge = refl; not-end = and-false end; start-is = refl }
-by-tests true false outside true short = refl
-by-tests true false outside false short = record { not-edge = and-false outside; not-end = refl; start-is = refl }
+by-tests true false right true short = refl
+by-tests true false right false short = record { not-edge = and-false right; not-end = refl; start-is = refl }
 
 -- an edge has a length, so a foot that is not past the support corner is before the other end
-arm-means : (v c end beyond : Corner) (outside : Bool) → pos 0 <ℤ squaredLength c end
+part-means : (v c end beyond : Corner) (isRight isAfter : Bool) → pos 0 <ℤ squaredLength c end
     → Means (record {
-      edge = outside && footIsBetween v c end;
-      end = endIsNearest v end beyond && leZ (along end c v) (pos 0);
+      edge = isRight && footIsBetween v c end;
+      end = endIsNearest v isRight isAfter end beyond && leZ (along end c v) (pos 0);
       start = leZ (along c end v) (pos 0);
-    }) (armPart v (c ⇀ v) (c ⇀ end) outside end beyond)
-arm-means v c end beyond outside long =
+    }) (edgePart v (c ⇀ v) (c ⇀ end) isRight isAfter end beyond)
+part-means v c end beyond isRight isAfter long =
     let t = along c end v in let l = squaredLength c end in
     rw (leZ-not t (pos 0), leZ-not (along end c v) (pos 0), foot-back v end c)
-    (by-tests (ltZ (pos 0) t) (ltZ t l) outside (endIsNearest v end beyond)
+    (by-tests (ltZ (pos 0) t) (ltZ t l) isRight (endIsNearest v isRight isAfter end beyond)
     (λ e. <ℤ-ltZ {a = t} {b = l} (≤ℤ-<ℤ-trans (ltZ-false e) long)))
+
+-- ---- the test of a corner
+
+-- a point that is strictly right of an edge at c, from p or to q, is not c
+not-corner : (p c q v : Corner) → (isRight v c q || isRight v p c) ≡ true → same c v ≡ false
+not-corner p c q v right = test-false _ (same-true c v) .1 (λ e. false≢true (rw (← e, side-stop p c, side-start c q) at right))
+
+-- so a test that holds where the others do, and not of the corner itself, stands in for not being the corner
+stands-in : (is s t right : Bool) → (not is && s && t ≡ true → right ≡ true) → (right ≡ true → is ≡ false)
+    → (not is && s && t) ≡ (s && right && t)
+stands-in true s t true held other = absurd (true≢false (other refl))
+stands-in true s t false held other = rw (and-false s)
+stands-in false s t true held other = rw (and-true s)
+stands-in false false t false held other = refl
+stands-in false true true false held other = absurd (false≢true (held refl))
+stands-in false true false false held other = refl
+
+-- Of the points whose foot is past a corner on neither of its edges, the corner alone is strictly right of neither (`corner-visible`).
+corner-by-right : {cs : List Corner} → Polygon cs → (v : Corner) (i : ℕ) → i < length cs → (let n = length cs in
+    let p = corner cs (previous n i) in let c = corner cs i in let q = corner cs (next n i) in
+    isCorner cs v i ≡ (leZ (along c p v) (pos 0) && (isRight v c q || isRight v p c) && leZ (along c q v) (pos 0)))
+corner-by-right {cs} polygon v i below =
+    let n = length cs in let p = corner cs (previous n i) in let c = corner cs i in let q = corner cs (next n i) in
+    stands-in (same c v) (leZ (along c p v) (pos 0)) (leZ (along c q v) (pos 0)) (isRight v c q || isRight v p c)
+    (λ holds. test-or (isRight v c q) (isRight v p c) Iff·rfl Iff·rfl .1 (corner-visible polygon v i below holds)) (not-corner p c q v)
 
 -- ---- both edges
 
--- the two tests of a corner's neighbours, exchanged
-and-swap : (a b c : Bool) → (a && b && c) ≡ (a && c && b)
-and-swap true b c = and-comm b c
-and-swap false b c = refl
+-- the tests of a corner's two edges, exchanged
+exchange : (a b s t : Bool) → (s && (a || b) && t) ≡ (t && (b || a) && s)
+exchange a b true true = ap (λ x. x && true) (or-comm a b)
+exchange a b true false = and-false (a || b)
+exchange a b false true = sym (and-false (b || a))
+exchange a b false false = refl
 
 -- a test does not both hold and fail
 clash : (test : ℕ → Bool) {i j : ℕ} → i ≡ j → test i ≡ true → test j ≡ false → ⊥
@@ -147,23 +181,32 @@ module _ {cs : List Corner} (polygon : Polygon cs) (b : ℕ) (below : b < length
   c = w .corner
 
   -- the tests of the edge after the support corner and of the edge before it
-  abbrev ahead : Tests
-  ahead = record { edge = isEdge cs v b; end = isCorner cs v (next n b); start = leZ (along c (w .after) v) (pos 0) }
+  abbrev testsAfter : Tests
+  testsAfter = record { edge = isEdge cs v b; end = isCorner cs v (next n b); start = leZ (along c (w .after) v) (pos 0) }
 
-  abbrev back : Tests
-  back = record { edge = isEdge cs v (previous n b); end = isCorner cs v (previous n b); start = leZ (along c (w .before) v) (pos 0) }
+  abbrev testsBefore : Tests
+  testsBefore = record {
+    edge = isEdge cs v (previous n b);
+    end = isCorner cs v (previous n b);
+    start = leZ (along c (w .before) v) (pos 0);
+  }
 
-  forward-means : Means ahead (forward v w)
-  forward-means =
-      let q = w .after in
-      rw (previous-next n b below, and-swap (not (same q v)) (leZ (along q c v) (pos 0)))
-      (arm-means v c q (w .farafter) (ltZ (side c q v) (pos 0)) (length-above-0 polygon b below))
+  after-means : Means testsAfter (partAfter v w)
+  after-means =
+      let q = w .after in let far = w .farafter in
+      rw (
+        corner-by-right polygon v (next n b) (next-below n b (omega arith)),
+        previous-next n b below,
+        exchange (isRight v q far) (isRight v c q) (leZ (along q c v) (pos 0)) (leZ (along q far v) (pos 0)),
+      )
+      (part-means v c q far (isRight v c q) true (length-above-0 polygon b below))
 
-  backward-means : Means back (backward v w)
-  backward-means =
-      let p = w .before in
-      let long = rw (next-previous n b below, length-back p c) at (length-above-0 polygon (previous n b) (previous-below n b below)) in
-      rw (next-previous n b below, edge-back v p c) (arm-means v c p (w .farbefore) (ltZ (pos 0) (side c p v)) long)
+  before-means : Means testsBefore (partBefore v w)
+  before-means =
+      let p = w .before in let far = w .farbefore in let below-too = previous-below n b below in
+      let long = rw (next-previous n b below, length-back p c) at (length-above-0 polygon (previous n b) below-too) in
+      rw (corner-by-right polygon v (previous n b) below-too, next-previous n b below, edge-back v p c, side-back v far p, side-back v p c)
+      (part-means v c p far (rightBefore v w) false long)
 
   -- a feature whose test holds is v's nearest, and if it is at the support corner, v counts
   counted : (f : Feature) → Tested cs v f → AtSupport n b f → f ≡ countedFeature cs b v
@@ -180,9 +223,9 @@ module _ {cs : List Corner} (polygon : Polygon cs) (b : ℕ) (below : b < length
   corner-before holds = counted (AtCorner (previous n b)) (previous-below n b below, holds) (inr (inr (next-previous n b below)))
 
   -- where v is nearest to neither edge and to neither of their other ends, the support corner is left
-  module _ {s t : Bool} (x : Neither ahead s) (y : Neither back t) where
-    corner-is : {u : Bool} → same c v ≡ u → isCorner cs v b ≡ (not u && t && s)
-    corner-is same-is = rw (same-is, y .start-is, x .start-is)
+  module _ {s t : Bool} (x : Neither testsAfter s) (y : Neither testsBefore t) where
+    corner-is : isCorner cs v b ≡ (t && (rightAfter v w || rightBefore v w) && s)
+    corner-is = corner-by-right polygon v b below ∙ (rw (side-back v (w .before) c, y .start-is, x .start-is))
 
     -- if its test fails too, no feature at the support corner has a test that holds
     none-tested : isCorner cs v b ≡ false → (f : Feature) → Tested cs v f → ¬ AtSupport n b f
@@ -199,28 +242,35 @@ module _ {cs : List Corner} (polygon : Polygon cs) (b : ℕ) (below : b < length
     uncounted not-here =
         rw (test-false _ (counted-iff polygon b below v) .1 (none-tested not-here (feature cs v) (feature-tested cs v)))
 
+  -- the support corner's test holds where v's foot is past it on neither edge, and v is strictly right of one
+  at-corner : Neither testsAfter true → Neither testsBefore true → (right : Bool) → (rightAfter v w || rightBefore v w) ≡ right
+      → featureOf w (cond right TheCorner NotNear) ≡ countedFeature cs b v
+  at-corner x y true is = counted (AtCorner b) (below, corner-is x y ∙ (rw is)) (inl refl)
+  at-corner x y false is = uncounted x y (corner-is x y ∙ (rw is))
+
   -- the edge after is asked first; where it has the nearest feature, the edge before says nothing else, since there is only one
-  by-parts : (f g : Part) (s : Bool) → Means ahead f → Means back g → same c v ≡ s → featureOf w (byArms f g s) ≡ countedFeature cs b v
-  by-parts Between g s x y e = counted (OnEdge b) (below, x) (inl refl)
-  by-parts End g s x y e = counted (AtCorner (next n b)) (next-below n b (omega arith), x) (inr (inl refl))
-  by-parts Start Start true x y e = uncounted x y (corner-is x y e)
-  by-parts Start Start false x y e = counted (AtCorner b) (below, corner-is x y e) (inl refl)
-  by-parts Start Between s x y e = edge-before y
-  by-parts Start End s x y e = corner-before y
-  by-parts Start None s x y e = uncounted x y (corner-is x y e ∙ simp and-false)
-  by-parts None Start s x y e = uncounted x y (corner-is x y e ∙ simp and-false)
-  by-parts None Between s x y e = edge-before y
-  by-parts None End s x y e = corner-before y
-  by-parts None None s x y e = uncounted x y (corner-is x y e ∙ simp and-false)
+  by-parts : (f g : Part) → Means testsAfter f → Means testsBefore g
+      → featureOf w (byParts f g (cornerIf (rightAfter v w) (rightBefore v w))) ≡ countedFeature cs b v
+  by-parts Between g x y = counted (OnEdge b) (below, x) (inl refl)
+  by-parts End g x y = counted (AtCorner (next n b)) (next-below n b (omega arith), x) (inr (inl refl))
+  by-parts Start Start x y = at-corner x y (rightAfter v w || rightBefore v w) refl
+  by-parts Start Between x y = edge-before y
+  by-parts Start End x y = corner-before y
+  by-parts Start None x y = uncounted x y (corner-is x y)
+  by-parts None Start x y = uncounted x y (corner-is x y ∙ and-false (rightAfter v w || rightBefore v w))
+  by-parts None Between x y = edge-before y
+  by-parts None End x y = corner-before y
+  by-parts None None x y = uncounted x y (corner-is x y)
 
   pub near-counted : (let w = windowAt cs b in
-      featureOf w (byArms (forward v w) (backward v w) (same (w .corner) v)) ≡ countedFeature cs b v)
-  near-counted = by-parts (forward v w) (backward v w) (same c v) forward-means backward-means refl
+      featureOf w (byParts (partAfter v w) (partBefore v w) (cornerIf (rightAfter v w) (rightBefore v w))) ≡ countedFeature cs b v)
+  near-counted = by-parts (partAfter v w) (partBefore v w) after-means before-means
 
--- a window that an accepted outline shows is one of a polygon
-pub near-seen : {w : Window} (v : Corner) {f g : Part} → f ≡ forward v w → g ≡ backward v w → (seen : Seen w)
-    → featureOf w (byArms f g (same (w .corner) v)) ≡ countedFeature (seen .outline) (w .number) v
-near-seen {w} v f-is g-is seen = rw (f-is, g-is) (subst
-    (λ (u : Window).
-    featureOf u (byArms (forward v u) (backward v u) (same (u .corner) v)) ≡ countedFeature (seen .outline) (w .number) v)
-    (sym (seen .equal)) (near-counted (accepted-polygon (seen .accepted)) (w .number) (seen .known) v))
+-- a window of an accepted outline is one of a polygon
+pub near-window : {w : Window} (v : Corner) {f g : Part} {a b : Bool} → f ≡ partAfter v w → g ≡ partBefore v w → a ≡ rightAfter v w
+    → b ≡ rightBefore v w → (window : IsWindow w)
+    → featureOf w (byParts f g (cornerIf a b)) ≡ countedFeature (window .outline) (w .number) v
+near-window {w} v f-is g-is a-is b-is window = rw (f-is, g-is, a-is, b-is) (subst
+    (λ (u : Window). featureOf u (byParts (partAfter v u) (partBefore v u) (cornerIf (rightAfter v u) (rightBefore v u)))
+    ≡ countedFeature (window .outline) (w .number) v)
+    (sym (window .equal)) (near-counted (accepted-polygon (window .accepted)) (w .number) (window .known) v))

@@ -1,13 +1,13 @@
 -- What a window of an accepted outline shows.
---     seen-count, seen-below    its count is the outline's, and its number is below it
---     WindowInRange, seen-range    its corners are in range
+--     window-count, window-below     its count is the outline's, and its number is below it
+--     WindowInRange, window-range    its corners are in range
 use Prim.Native.Nat.{_<_}
 use mathlib.Core.Path.{_≡_, refl, sym, ap, subst}
 use lib.ListN.{length}
 use Rattle.plane.specs.Range.{InRange}
 use Rattle.nearest.proofs.Pass.{before-below, after-below}
 use Rattle.measuring.specs.declared.Window.{Window}
-use Rattle.measuring.specs.Window.{Seen}
+use Rattle.measuring.specs.Window.{IsWindow}
 
 pub record WindowInRange (w : Window) : Type 0 where
   pub farbefore : InRange (w .farbefore)
@@ -16,18 +16,18 @@ pub record WindowInRange (w : Window) : Type 0 where
   pub after : InRange (w .after)
   pub farafter : InRange (w .farafter)
 
-module _ {w : Window} (seen : Seen w) where
-  pub seen-count : w .count ≡ length (seen .outline)
-  seen-count = ap (λ (u : Window). u .count) (seen .equal)
+module _ {w : Window} (window : IsWindow w) where
+  pub window-count : w .count ≡ length (window .outline)
+  window-count = ap (λ (u : Window). u .count) (window .equal)
 
-  pub seen-below : w .number < w .count
-  seen-below = rw seen-count (seen .known)
+  pub window-below : w .number < w .count
+  window-below = rw window-count (window .known)
 
   -- each corner of the window is one of the outline's
-  pub seen-range : WindowInRange w
-  seen-range =
-      let known = seen .known in let all = seen .accepted .in-range in
-      subst WindowInRange (sym (seen .equal)) (record {
+  pub window-range : WindowInRange w
+  window-range =
+      let known = window .known in let all = window .accepted .in-range in
+      subst WindowInRange (sym (window .equal)) (record {
         farbefore = all _ (before-below refl (before-below refl known));
         before = all _ (before-below refl known);
         corner = all _ known;

@@ -1,4 +1,4 @@
--- What measuring finds, told from a window.
+-- What measuring finds, told from a window. For the code alone: `proofs/NearLaws.antt` shows that it is the nearest feature.
 --     countedFeature    v's nearest feature in an outline with support corner b, if v counts; else Within
 --     featureOf         the feature that is meant by a part of a window; Within for none
 --     isNone            the test for none
@@ -21,7 +21,8 @@ use Rattle.hausdorff.specs.Counting.{isCounted}
 use Rattle.hausdorff.specs.CornerGap.{named}
 use Rattle.measuring.specs.declared.Window.{Window}
 use Rattle.measuring.specs.declared.Near.{Near}
-use Rattle.measuring.specs.declared.Near.the-variants.{None, Corner as TheCorner, EdgeAfter, EdgeBefore, CornerAfter, CornerBefore}
+use Rattle.measuring.specs.declared.Near.the-variants.{None, Corner as TheCorner, EdgeAfter, EdgeBefore}
+use Rattle.measuring.specs.declared.Near.the-variants.{CornerAfter, CornerBefore}
 
 abbrev pub countedFeature : List Corner → ℕ → Corner → Feature
 countedFeature cs b v = cond (isCounted cs b v) (feature cs v) Within

@@ -1,6 +1,6 @@
--- What a step sees of an outline.
---     windowAt    the support corner b of an outline and the two corners on either side, taken round
---     Seen        a window is that of an accepted outline at one of its corners
+-- What a step sees of an outline. For the code alone: `proofs/WindowLaws.antt` shows what a window says of its corners.
+--     windowAt    the support corner b of an outline and the two corners on either side, counted round the outline
+--     IsWindow    a window is that of an accepted outline at one of its corners
 use Prim.Native.Nat.{ℕ, _<_}
 use mathlib.Core.Path.{_≡_}
 use mathlib.Core.List.{List}
@@ -21,7 +21,7 @@ windowAt cs b = record {
   farafter = corner cs (next (length cs) (next (length cs) b));
 }
 
-pub record Seen (w : Window) : Type 0 where
+pub record IsWindow (w : Window) : Type 0 where
   pub outline : List Corner
   pub accepted : Accepted outline
   pub known : w .number < length outline

@@ -12,17 +12,18 @@ use outline::corners;
 use plane::Corner;
 use plane::Vector;
 ghost use mathlib.Core.Path.{_≡_};
-ghost use Prim.Native.Nat.{ℕ, _<_};
+ghost use Prim.Native.Nat.{ℕ};
 ghost use Rattle.integers.specs.Fraction.{Bounded};
 ghost use Rattle.plane.specs.Range.{InRange, Span, reach};
+ghost use Rattle.hausdorff.specs.CornerGap.{named};
 ghost use Rattle.hausdorff.specs.Worst.{keep};
-ghost use Rattle.measuring.specs.Window.{Seen};
+ghost use Rattle.measuring.specs.Window.{IsWindow};
 ghost use Rattle.measuring.specs.Near.{featureOf, countedFeature, isNone, nearValues, nearWorst};
-ghost use Rattle.measuring.specs.Arm.{endIsNearest, armPart, cornerUnless};
-ghost use Rattle.measuring.specs.Improving.{BoundedWorst, isWorse, improves};
+ghost use Rattle.measuring.specs.EdgePart.{isRightOf, endIsNearest, edgePart, cornerIf, byParts};
+ghost use Rattle.measuring.specs.Changes.{BoundedWorst, isWorse, changes};
 
 // What a step sees of an outline: how many corners it has, its support corner with its number, and the two corners on either side,
-// taken round.
+// counted round the outline.
 pub struct Window {
     pub count: usize,
     pub number: usize,
@@ -44,85 +45,104 @@ pub enum Near {
     CornerBefore,
 }
 
-// Whether v, whose foot is not before `end` on the edge that ends there, is nearest to `end`; `beyond` is the next corner.
-fn end_is_nearest(v: Corner, end: Corner, beyond: Corner) -> bool
+// Whether v is strictly right of an edge at a corner: `run` and `to` lead from the corner to the edge's other end and to v.
+// is_after: it is the edge after the corner. The edge before runs to the corner, against `run`, and so its right is the left of `run`.
+fn is_right_of(is_after: bool, run: Vector, to: Vector) -> bool
+    requires { ⌜ Span reach run ⌝ }
+    requires { ⌜ Span reach to ⌝ }
+    ensures { λ r. ⌜ r ≡ isRightOf «is_after» run to ⌝ }
+{
+    let s = plane::side(run, to);
+    if is_after {
+        return s < 0;
+    }
+    0 < s
+}
+
+// Whether v, whose foot is not before the end of an edge, is nearest to this end: on the edge from there to `beyond` its foot is not past
+// `end` either, and v is not `end` itself, which alone of such points is strictly right of neither edge.
+// is_right: v is strictly right of the first edge; is_after: that to `beyond` is the edge after `end`.
+fn end_is_nearest(v: Corner, is_right: bool, is_after: bool, end: Corner, beyond: Corner) -> bool
     requires { ⌜ InRange v ⌝ }
     requires { ⌜ InRange end ⌝ }
     requires { ⌜ InRange beyond ⌝ }
-    ensures { λ r. ⌜ r ≡ endIsNearest v end beyond ⌝ }
+    ensures { λ r. ⌜ r ≡ endIsNearest v «is_right» «is_after» end beyond ⌝ }
 {
-    if 0 < plane::dot(plane::difference(end, v), plane::difference(end, beyond)) {
+    let to = plane::difference(end, v);
+    let run = plane::difference(end, beyond);
+    if 0 < plane::dot(to, run) {
         return false;
     }
-    !plane::same(end, v)
+    if is_right {
+        return true;
+    }
+    is_right_of(is_after, run, to)
 }
 
-// The part of an edge that v is nearest to, seen from the support corner: `to` and `run` lead from it to v and to the edge's other end.
-// Start: v's foot is not past the support corner.
-fn arm(v: Corner, to: Vector, run: Vector, is_outside: bool, end: Corner, beyond: Corner) -> Part
+// The part of an edge at the support corner that v is nearest to: `to` and `run` lead from this corner to v and to the edge's other end,
+// which is `end`; `beyond` is the next corner the same way round. is_right: v is strictly right of the edge; is_after: it is the edge after
+// the support corner.
+// Start: v's foot is not past the support corner; None: v is nearest to none of the edge's parts.
+fn edge_part(
+    v: Corner,
+    to: Vector,
+    run: Vector,
+    is_right: bool,
+    is_after: bool,
+    end: Corner,
+    beyond: Corner,
+) -> Part
     requires { ⌜ InRange v ⌝ }
     requires { ⌜ Span reach to ⌝ }
     requires { ⌜ Span reach run ⌝ }
     requires { ⌜ InRange end ⌝ }
     requires { ⌜ InRange beyond ⌝ }
-    ensures { λ r. ⌜ r ≡ armPart v to run «is_outside» end beyond ⌝ }
+    ensures { λ r. ⌜ r ≡ edgePart v to run «is_right» «is_after» end beyond ⌝ }
 {
     let along = plane::dot(to, run);
     if along <= 0 {
         return Part::Start;
     }
     if along < plane::squared_length(run) {
-        if is_outside {
+        if is_right {
             return Part::Between;
         }
         return Part::None;
     }
-    if end_is_nearest(v, end, beyond) {
+    if end_is_nearest(v, is_right, is_after, end, beyond) {
         return Part::End;
     }
     Part::None
 }
 
-fn corner_unless(is_same: bool) -> Near
-    ensures { λ r. ⌜ r ≡ cornerUnless «is_same» ⌝ }
+// What is found for v whose foot is past the support corner on neither edge: this corner, if v is strictly right of one of them. Of such
+// points the corner itself alone is not.
+fn corner_if(right_after: bool, right_before: bool) -> Near
+    ensures { λ r. ⌜ r ≡ cornerIf «right_after» «right_before» ⌝ }
 {
-    if is_same { Near::None } else { Near::Corner }
+    if right_after {
+        return Near::Corner;
+    }
+    if right_before {
+        return Near::Corner;
+    }
+    Near::None
 }
 
-// The nearest feature to v, if v counts.
-pub fn find(v: Corner, w: Window) -> Near
-    requires { ⌜ InRange v ⌝ }
-    requires { ⌜ Seen w ⌝ }
-    ensures { λ r. ⌜ ((seen : Seen w) → featureOf w r ≡ countedFeature (seen .outline) (w .number) v) ⌝ }
+// What the parts of the edge after the support corner and of the edge before it tell; `corner` is what is found if both are Start.
+fn by_parts(after: Part, before: Part, corner: Near) -> Near
+    ensures { λ r. ⌜ r ≡ byParts after before corner ⌝ }
 {
-    let to = plane::difference(w.corner, v);
-    let ahead = plane::difference(w.corner, w.after);
-    let back = plane::difference(w.corner, w.before);
-    let backward = arm(
-        v,
-        to,
-        back,
-        0 < plane::side(back, to),
-        w.before,
-        w.farbefore,
-    );
-    match arm(
-        v,
-        to,
-        ahead,
-        plane::side(ahead, to) < 0,
-        w.after,
-        w.farafter,
-    ) {
+    match after {
         Part::Between => Near::EdgeAfter,
         Part::End => Near::CornerAfter,
-        Part::Start => match backward {
-            Part::Start => corner_unless(plane::same(w.corner, v)),
+        Part::Start => match before {
+            Part::Start => corner,
             Part::Between => Near::EdgeBefore,
             Part::End => Near::CornerBefore,
             Part::None => Near::None,
         },
-        Part::None => match backward {
+        Part::None => match before {
             Part::Start => Near::None,
             Part::Between => Near::EdgeBefore,
             Part::End => Near::CornerBefore,
@@ -131,10 +151,38 @@ pub fn find(v: Corner, w: Window) -> Near
     }
 }
 
-// The gap and the nearest point that go with it.
+// The nearest feature to v, if v counts.
+pub fn find(v: Corner, w: Window) -> Near
+    requires { ⌜ InRange v ⌝ }
+    requires { ⌜ IsWindow w ⌝ }
+    ensures { λ r. ⌜ ((window : IsWindow w) → featureOf w r ≡ countedFeature (window .outline) (w .number) v) ⌝ }
+{
+    let to = plane::difference(w.corner, v);
+    let run_before = plane::difference(w.corner, w.before);
+    let run_after = plane::difference(w.corner, w.after);
+    let right_before = is_right_of(false, run_before, to);
+    let right_after = is_right_of(true, run_after, to);
+    let part_before = edge_part(
+        v,
+        to,
+        run_before,
+        right_before,
+        false,
+        w.before,
+        w.farbefore,
+    );
+    let part_after = edge_part(v, to, run_after, right_after, true, w.after, w.farafter);
+    by_parts(
+        part_after,
+        part_before,
+        corner_if(right_after, right_before),
+    )
+}
+
+// The gap and the nearest point of what `find` found.
 fn values(v: Corner, w: Window, f: Near) -> NearestPoint
     requires { ⌜ InRange v ⌝ }
-    requires { ⌜ Seen w ⌝ }
+    requires { ⌜ IsWindow w ⌝ }
     ensures { λ r. ⌜ r ≡ nearValues v w f ⌝ }
 {
     let n = w.count;
@@ -149,6 +197,7 @@ fn values(v: Corner, w: Window, f: Near) -> NearestPoint
     }
 }
 
+// Whether `find` found nothing.
 fn is_none(f: Near) -> bool
     ensures { λ r. ⌜ r ≡ isNone f ⌝ }
 {
@@ -163,60 +212,66 @@ fn is_none(f: Near) -> bool
 }
 
 // Whether a corner with this gap takes the place of another of its side: its gap is greater, or equal and its number lower.
-fn is_worse(gap: Fraction, corner: usize, old: CornerGap) -> bool
+fn is_worse(gap: Fraction, number: usize, old: CornerGap) -> bool
     requires { ⌜ Bounded gap ⌝ }
     requires { ⌜ Bounded (old .gap) ⌝ }
-    ensures { λ r. ⌜ r ≡ isWorse gap corner old ⌝ }
+    ensures { λ r. ⌜ r ≡ isWorse gap number old ⌝ }
 {
     match fraction::compare(old.gap, gap) {
         Order::Less => true,
-        Order::Equal => corner < old.corner,
+        Order::Equal => number < old.corner,
         Order::Greater => false,
     }
 }
 
-// Whether the worst so far of a side changes when its support corner, v, is measured.
-pub fn improves(corner: usize, v: Corner, w: Window, f: Near, old: WorstSoFar) -> bool
+// Whether the worst so far of a side changes when its support corner, v, is measured; f is what `find` found.
+pub fn changes(number: usize, v: Corner, w: Window, f: Near, old: WorstSoFar) -> bool
     requires { ⌜ InRange v ⌝ }
-    requires { ⌜ Seen w ⌝ }
+    requires { ⌜ IsWindow w ⌝ }
     requires { ⌜ BoundedWorst old ⌝ }
-    ensures { λ r. ⌜ r ≡ improves corner v w f old ⌝ }
+    ensures { λ r. ⌜ r ≡ changes number v w f old ⌝ }
 {
     if is_none(f) {
         return false;
     }
     match old {
         WorstSoFar::None => true,
-        WorstSoFar::Worst(o) => is_worse(values(v, w, f).gap, corner, o),
+        WorstSoFar::Worst(o) => is_worse(values(v, w, f).gap, number, o),
     }
 }
 
-// The worst so far of a side once its support corner, v, is measured.
+// An answer of the nearest point, with the side and the number of the corner that it is for.
+pub fn named(side: Side, number: usize, a: NearestPoint) -> CornerGap
+    ensures { λ r. ⌜ r ≡ named side number a ⌝ }
+{
+    let feature = a.feature;
+    let gap = a.gap;
+    let point = a.point;
+    CornerGap {
+        side: side,
+        corner: number,
+        feature: feature,
+        gap: gap,
+        point: point,
+    }
+}
+
+// The worst so far of a side once its support corner, v, is measured; f is what `find` found.
 pub fn measure(
     side: Side,
-    corner: usize,
+    number: usize,
     v: Corner,
     w: Window,
     f: Near,
     old: WorstSoFar,
 ) -> WorstSoFar
     requires { ⌜ InRange v ⌝ }
-    requires { ⌜ Seen w ⌝ }
+    requires { ⌜ IsWindow w ⌝ }
     requires { ⌜ BoundedWorst old ⌝ }
-    ensures { λ r. ⌜ r ≡ keep (λ (i : ℕ). i) old (nearWorst side corner v w f) ⌝ }
+    ensures { λ r. ⌜ r ≡ keep (λ (i : ℕ). i) old (nearWorst side number v w f) ⌝ }
 {
-    if !improves(corner, v, w, f, old) {
+    if !changes(number, v, w, f, old) {
         return old;
     }
-    let a = values(v, w, f);
-    let feature = a.feature;
-    let gap = a.gap;
-    let point = a.point;
-    WorstSoFar::Worst(CornerGap {
-        side: side,
-        corner: corner,
-        feature: feature,
-        gap: gap,
-        point: point,
-    })
+    WorstSoFar::Worst(named(side, number, values(v, w, f)))
 }

@@ -4,7 +4,7 @@
 --     keepsLeft    the tests of a corner: against edge 0, the line from corner 0 to the corner before, and the edge to that corner
 --     keepsLeftAt  the tests of corner i + 2
 --     isConvex     every corner after the first two passes them
--- For the code alone: `proofs/TurnsLaws.antt` shows that corners pass exactly where they are `StrictlyConvex`.
+-- For the code alone, but for `all`: `proofs/TurnsLaws.antt` shows that corners pass exactly where they are `StrictlyConvex`.
 use Prim.Native.Nat.{ℕ, zero, suc, _-_}
 use mathlib.Core.Bool.{Bool, true, _&&_}
 use mathlib.Core.List.{List}

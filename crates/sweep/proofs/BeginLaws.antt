@@ -1,6 +1,6 @@
 -- Where the code begins is where document 01's sweep does.
 --     lowest-unique    an outline has one lowest, then leftmost corner
---     begins-after     a state that begins at these corners is the sweep after no steps
+--     begins-after     a state with these support corners, all edges to come and no worst is the sweep after no steps
 -- The search for such a corner that `lowest` makes:
 --     NotAfter         a corner is lower than another or, at the same height, not right of it
 --     Searching        the invariant: of the corners numbered below i, `found` is the lowest, of several the leftmost
@@ -27,11 +27,13 @@ use Rattle.outline.specs.Corners.{corner, next, cornersOf}
 use Rattle.outline.proofs.CornersLaws.{next-next-other}
 use Rattle.outline.proofs.HeldLaws.{cornersOf-corner}
 use Rattle.hausdorff.specs.declared.Side.{Side}
+use Rattle.hausdorff.specs.declared.WorstSoFar.the-variants.{None}
 use Rattle.hausdorff.specs.Pair.{Pair, Polygons}
 use Rattle.hausdorff.specs.Sweep.{begin, steps}
-use Rattle.hausdorff.proofs.LowestLaws.{LowestLeftmost, begins-lowest}
+use Rattle.hausdorff.specs.Lowest.{LowestLeftmost}
+use Rattle.hausdorff.proofs.LowestLaws.{begins-lowest}
 use Rattle.sweep.specs.declared.State.{State}
-use Rattle.sweep.specs.State.{walkOf, IsAfter, isLower, Begins}
+use Rattle.sweep.specs.State.{sideState, IsAfter, isLower}
 use Rattle.sweep.proofs.NextEdge.{begin-to-come}
 
 abbrev pub NotAfter : Corner → Corner → Type 0
@@ -80,12 +82,13 @@ module _ {cs : List Corner} (polygon : Polygon cs) where
       corner-number i j (a .known) (b .known) (not-after-both _ _ (a .lowest j (b .known)) (b .lowest i (a .known)))
 
 -- the sweep too begins at the lowest, then leftmost corners
-pub begins-after : (pair : Pair) → Polygons pair → (state : State) → ((s : Side) → Begins (pair s) (walkOf state s)) → IsAfter pair 0 state
+pub begins-after : (pair : Pair) → Polygons pair → (state : State) → ((s : Side) → LowestLeftmost (pair s) (sideState state s .support))
+    → ((s : Side) → sideState state s .remaining ≡ length (pair s)) → ((s : Side) → sideState state s .worst ≡ None) → IsAfter pair 0 state
 unfolding begin steps
-begins-after pair polygons state begins = record {
-  support = λ s. lowest-unique (polygons s) _ _ (begins s .support) (begins-lowest pair polygons s);
-  left = λ s. begins s .left ∙ sym (begin-to-come pair polygons s);
-  worst = λ s. begins s .worst;
+begins-after pair polygons state lowest all none = record {
+  support = λ s. lowest-unique (polygons s) _ _ (lowest s) (begins-lowest pair polygons s);
+  remaining = λ s. all s ∙ sym (begin-to-come pair polygons s);
+  worst = none;
 }
 
 -- what the code's test says: if it holds p stands first, and if not q

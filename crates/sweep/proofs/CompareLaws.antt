@@ -3,18 +3,19 @@
 --     stepsMade            the steps that are made: all N, or as many as are allowed
 --     reported-after       what is reported after them is document 01's report
 --     pairOf               the pair of two outlines' values
---     Around               a corner's number and those on either side are below the count
 --     window-read          corners read from a value, around one of them, are what a step sees there
---     Comparing            the invariant: the state is the sweep of two outlines after k of the steps that are made
---     comparing-begins     it holds before step 1
---     comparing-due, comparing-on           a step is due while there is one to make, and after it the invariant holds again
---     comparing-bounded, comparing-reports  the state can be reported, and after the last step its report is document 01's
+--     Around               a corner's number and those on either side are below the count
+--     outline-counted, outlines-accepted    what is known of values that hold outlines
+-- The loop that makes the steps:
+--     Running              the invariant: the state is the sweep of two outlines after k of the steps
+--     run-begins, run-ends     it holds before step 1; after the last step the state is the sweep after all of them
+--     run-can-step, run-on     a step can be made while there is one to make, and after it the invariant holds again
+--     compare-reports      the report of the state after the steps that are made is document 01's
 use Prim.Native.Nat.{ℕ, suc, _+_, _<_, _≤_}
 use mathlib.Core.Path.{_≡_, refl, sym}
 use mathlib.Core.Bool.{Bool, true, false, cond}
 use native.Mathlib.Numerals.{add-one}
 use native.Mathlib.Omega.{arith}
-use borrow.Author.Tests.{ltb-true}
 use lib.Dec.{ltb}
 use lib.ListN.{length}
 use Rattle.integers.specs.Fraction.{isLess}
@@ -32,14 +33,13 @@ use Rattle.hausdorff.specs.declared.WorstSoFar.the-variants.{None, Worst}
 use Rattle.hausdorff.specs.declared.Report.the-variants.{Spent as ReportSpent, Done as ReportDone}
 use Rattle.hausdorff.specs.Pair.{Pair, AcceptedPair, both, stepCount}
 use Rattle.hausdorff.specs.Worst.{overall}
-use Rattle.hausdorff.specs.Report.{orZeroWithin, spent, done, report}
+use Rattle.hausdorff.specs.Report.{orWithin, spent, done, report}
+use Rattle.hausdorff.specs.Lowest.{LowestLeftmost}
 use Rattle.sweep.specs.declared.State.{State}
 use Rattle.measuring.specs.declared.Window.{Window}
 use Rattle.measuring.specs.Window.{windowAt}
-use Rattle.measuring.specs.Improving.{BoundedWorst}
-use Rattle.sweep.specs.Reporting.{orWithin}
-use Rattle.sweep.specs.State.{walkOf, IsAfter, Due, BoundedState, Begins, reported}
-use Rattle.measuring.proofs.GapSizes.{worst-bounded}
+use Rattle.measuring.specs.Changes.{BoundedWorst}
+use Rattle.sweep.specs.State.{sideState, IsAfter, CanStep, BoundedState, beginning, reported}
 use Rattle.sweep.proofs.BeginLaws.{begins-after}
 use Rattle.sweep.proofs.StepLaws.{support-known}
 
@@ -62,24 +62,11 @@ or-within-positive first (Worst w) bounded = bounded .lower-positive
 pub answer-positive : (state : State) (first : Corner) → BoundedState state
     → 0 < orWithin first (overall (state .a .worst) (state .b .worst)) .gap .lower
 answer-positive state first bounded =
-    let worsta = state .a .worst in let worstb = state .b .worst in
-    or-within-positive first (overall worsta worstb) (overall-bounded worsta worstb (bounded .bounded-a) (bounded .bounded-b))
-
--- A's corner 0, within, is document 01's answer where there is no worst
-or-within-zero : (pair : Pair) (w : WorstSoFar) → orWithin (corner (pair A) 0) w ≡ orZeroWithin pair w
-or-within-zero pair None = refl
-or-within-zero pair (Worst w) = refl
+    let worst-a = state .a .worst in let worst-b = state .b .worst in
+    or-within-positive first (overall worst-a worst-b) (overall-bounded worst-a worst-b (bounded .bounded-a) (bounded .bounded-b))
 
 abbrev pub stepsMade : ℕ → ℕ → ℕ
 stepsMade total allowance = cond (ltb allowance total) allowance total
-
--- an allowance is taken only where it is below the total
-steps-within : (total allowance : ℕ) → stepsMade total allowance ≤ total
-steps-within total allowance = go (ltb allowance total) refl
-  where
-    go : (t : Bool) → ltb allowance total ≡ t → cond t allowance total ≤ total
-    go true e = omega (arith, ltb-true)
-    go false e = omega arith
 
 -- spent if the allowance is below N, otherwise done
 pub reported-after : (pair : Pair) (allowance : ℕ) (state : State) → IsAfter pair (stepsMade (stepCount pair) allowance) state
@@ -91,10 +78,35 @@ reported-after pair allowance state = go (ltb allowance (stepCount pair))
         → reported state (cond t allowance (stepCount pair)) t (corner (pair A) 0)
         ≡ cond t (ReportSpent (spent pair allowance)) (ReportDone (done pair))
     go true is = rw (is .support A, is .support B, is .worst A, is .worst B)
-    go false is = rw (is .worst A, is .worst B, or-within-zero pair)
+    go false is = rw (is .worst A, is .worst B)
 
 abbrev pub pairOf : Outline → Outline → Pair
 pairOf a b = both (cornersOf a) (cornersOf b)
+
+-- the corners are in the places of their numbers; `near-before` and `near-after` are those that the far ones are counted from
+pub window-read : (o : Outline) {i near-before farbefore before after near-after farafter : ℕ} → o .count ≡ length (cornersOf o)
+    → i < o .count → near-before ≡ previous (o .count) i → farbefore ≡ previous (o .count) near-before → before ≡ previous (o .count) i
+    → after ≡ next (o .count) i → near-after ≡ next (o .count) i → farafter ≡ next (o .count) near-after
+    → _≡_ {A = Window} (record {
+      count = o .count;
+      number = i;
+      farbefore = corner (o .corners) farbefore;
+      before = corner (o .corners) before;
+      corner = corner (o .corners) i;
+      after = corner (o .corners) after;
+      farafter = corner (o .corners) farafter;
+    }) (windowAt (cornersOf o) i)
+window-read o {i} {near-before} {farbefore} {before} {after} {near-after} {farafter}
+    counted known near-before-is farbefore-is before-is after-is near-after-is farafter-is =
+    let read : (j : ℕ) → j < o .count → corner (cornersOf o) j ≡ corner (o .corners) j = cornersOf-corner o in
+    cc (
+      counted,
+      read i known,
+      read before (before-below before-is known),
+      read after (after-below after-is known),
+      read farbefore (before-below farbefore-is (before-below near-before-is known)),
+      read farafter (after-below farafter-is (after-below near-after-is known)),
+    )
 
 pub record Around (n i : ℕ) : Type 0 where
   pub known : i < n
@@ -105,36 +117,11 @@ pub record Around (n i : ℕ) : Type 0 where
 around : {n i : ℕ} → i < n → Around n i
 around known = record { known = known; before-known = before-below refl known; after-known = after-below refl known }
 
--- the corners are in the places of their numbers
-pub window-read : (o : Outline) {i before after farbefore farafter : ℕ} → o .count ≡ length (cornersOf o) → i < o .count
-    → before ≡ previous (o .count) i → after ≡ next (o .count) i → farbefore ≡ previous (o .count) before → farafter ≡ next (o .count) after
-    → _≡_ {A = Window} (record {
-      count = o .count;
-      number = i;
-      farbefore = corner (o .corners) farbefore;
-      before = corner (o .corners) before;
-      corner = corner (o .corners) i;
-      after = corner (o .corners) after;
-      farafter = corner (o .corners) farafter;
-    }) (windowAt (cornersOf o) i)
-window-read o {i} {before} {after} {farbefore} {farafter} counted known before-is after-is farbefore-is farafter-is =
-    let read : (j : ℕ) → j < o .count → corner (cornersOf o) j ≡ corner (o .corners) j = cornersOf-corner o in
-    let before-known = before-below before-is known in let after-known = after-below after-is known in
-    cc (
-      counted,
-      read i known,
-      read before before-known,
-      read after after-known,
-      read farbefore (before-below farbefore-is before-known),
-      read farafter (after-below farafter-is after-known),
-    )
-
--- `steps` are those that are made for the allowance, and k of them are
-pub record Comparing (a b : Outline) (allowance steps k : ℕ) (state : State) : Type 0 where
+pub record Running (a b : Outline) (steps k : ℕ) (state : State) : Type 0 where
   pub accepted : AcceptedPair (pairOf a b)
   pub counted-a : a .count ≡ length (cornersOf a)
   pub counted-b : b .count ≡ length (cornersOf b)
-  pub chosen : steps ≡ stepsMade (a .count + b .count) allowance
+  pub within : steps ≤ a .count + b .count
   pub made : k ≤ steps
   pub is-after : IsAfter (pairOf a b) k state
   -- what follows from these, for the sums and the reads of the code
@@ -142,51 +129,65 @@ pub record Comparing (a b : Outline) (allowance steps k : ℕ) (state : State) :
   pub fits-b : b .count ≤ most
   pub around-a : Around (a .count) (state .a .support)
   pub around-b : Around (b .count) (state .b .support)
-  pub within : steps ≤ a .count + b .count
 
-module _ {a b : Outline} {allowance steps : ℕ} where
+-- the count of a value that holds an outline is how many corners it has
+pub outline-counted : {o : Outline} → IsOutline o → length (o .corners) ≡ most → o .count ≡ length (cornersOf o)
+outline-counted {o} outline places = sym (length-cornersOf o (omega (arith, outline .fits)))
+
+-- each value holds an accepted outline
+pub outlines-accepted : {a b : Outline} → IsOutline a → IsOutline b → AcceptedPair (pairOf a b)
+outlines-accepted outline-a outline-b A = outline-a .accepted
+outlines-accepted outline-a outline-b B = outline-b .accepted
+
+module _ {a b : Outline} {steps : ℕ} where
   -- the support corners after k steps are corners of the outlines
-  comparing : {k : ℕ} {state : State} → AcceptedPair (pairOf a b) → a .count ≡ length (cornersOf a) → b .count ≡ length (cornersOf b)
-      → steps ≡ stepsMade (a .count + b .count) allowance → k ≤ steps → IsAfter (pairOf a b) k state → Comparing a b allowance steps k state
-  comparing {k} accepted counted-a counted-b chosen made is-after =
+  running : {k : ℕ} {state : State} → AcceptedPair (pairOf a b) → a .count ≡ length (cornersOf a) → b .count ≡ length (cornersOf b)
+      → steps ≤ a .count + b .count → k ≤ steps → IsAfter (pairOf a b) k state → Running a b steps k state
+  running {k} accepted counted-a counted-b within made is-after =
       let below = support-known (pairOf a b) (λ s. accepted-polygon (accepted s)) k in record {
         accepted = accepted;
         counted-a = counted-a;
         counted-b = counted-b;
-        chosen = chosen;
+        within = within;
         made = made;
         is-after = is-after;
         fits-a = omega (arith, accepted A .at-most);
         fits-b = omega (arith, accepted B .at-most);
         around-a = around (omega (arith, below A, is-after .support A));
         around-b = around (omega (arith, below B, is-after .support B));
-        within = rw chosen (steps-within (a .count + b .count) allowance);
       }
 
   -- each side begins where document 01's sweep does
-  pub comparing-begins : {state : State} → IsOutline a → IsOutline b → length (a .corners) ≡ most → length (b .corners) ≡ most
-      → steps ≡ stepsMade (a .count + b .count) allowance → Begins (cornersOf a) (state .a) → Begins (cornersOf b) (state .b)
-      → Comparing a b allowance steps 0 state
-  comparing-begins {state} outline-a outline-b places-a places-b chosen begins-a begins-b =
-      comparing accepted (counted outline-a places-a) (counted outline-b places-b) chosen (omega arith)
-      (begins-after (pairOf a b) (λ s. accepted-polygon (accepted s)) state begins)
+  pub run-begins : {i j : ℕ} → IsOutline a → IsOutline b → length (a .corners) ≡ most → length (b .corners) ≡ most
+      → steps ≤ a .count + b .count → LowestLeftmost (cornersOf a) i → LowestLeftmost (cornersOf b) j
+      → Running a b steps 0 (record { a = beginning i (a .count); b = beginning j (b .count) })
+  run-begins {i} {j} outline-a outline-b places-a places-b within lowest-a lowest-b =
+      running accepted (all A) (all B) within (omega arith)
+      (begins-after (pairOf a b) (λ s. accepted-polygon (accepted s)) start lowest all none)
     where
-      counted : {o : Outline} → IsOutline o → length (o .corners) ≡ most → o .count ≡ length (cornersOf o)
-      counted {o} outline places = sym (length-cornersOf o (omega (arith, outline .fits)))
+      start : State
+      start = record { a = beginning i (a .count); b = beginning j (b .count) }
 
       accepted : AcceptedPair (pairOf a b)
-      accepted A = outline-a .accepted
-      accepted B = outline-b .accepted
+      accepted = outlines-accepted outline-a outline-b
 
-      begins : (s : Side) → Begins (pairOf a b s) (walkOf state s)
-      begins A = begins-a
-      begins B = begins-b
+      lowest : (s : Side) → LowestLeftmost (pairOf a b s) (sideState start s .support)
+      lowest A = lowest-a
+      lowest B = lowest-b
 
-  module _ {k : ℕ} {state : State} (at-k : Comparing a b allowance steps k state) where
+      all : (s : Side) → sideState start s .remaining ≡ length (pairOf a b s)
+      all A = outline-counted outline-a places-a
+      all B = outline-counted outline-b places-b
+
+      none : (s : Side) → sideState start s .worst ≡ None
+      none A = refl
+      none B = refl
+
+  module _ {k : ℕ} {state : State} (at-k : Running a b steps k state) where
     -- unfoldable, since what a step ensures is said of the pair and the steps of this record
-    unfoldable pub comparing-due : {seena seenb : Window} → k < steps → seena ≡ windowAt (cornersOf a) (state .a .support)
-        → seenb ≡ windowAt (cornersOf b) (state .b .support) → Due state seena seenb
-    comparing-due more sees-a sees-b = record {
+    unfoldable pub run-can-step : {window-a window-b : Window} → k < steps → window-a ≡ windowAt (cornersOf a) (state .a .support)
+        → window-b ≡ windowAt (cornersOf b) (state .b .support) → CanStep state window-a window-b
+    run-can-step more sees-a sees-b = record {
       pair = pairOf a b;
       steps = k;
       accepted = at-k .accepted;
@@ -197,22 +198,21 @@ module _ {a b : Outline} {allowance steps : ℕ} where
     }
 
     -- a step leads to the sweep after one step more
-    pub comparing-on : {stepped : State} → k < steps → IsAfter (pairOf a b) (suc k) stepped → Comparing a b allowance steps (k + 1) stepped
-    comparing-on more is-after =
-        comparing (at-k .accepted) (at-k .counted-a) (at-k .counted-b) (at-k .chosen) (omega arith) (rw (add-one k) is-after)
+    pub run-on : {stepped : State} → k < steps → IsAfter (pairOf a b) (suc k) stepped → Running a b steps (k + 1) stepped
+    run-on more is-after =
+        running (at-k .accepted) (at-k .counted-a) (at-k .counted-b) (at-k .within) (omega arith) (rw (add-one k) is-after)
 
-    -- what the sweep keeps is bounded
-    pub comparing-bounded : BoundedState state
-    comparing-bounded = let bounded = worst-bounded (pairOf a b) (at-k .accepted) k in record {
-      bounded-a = rw (at-k .is-after .worst A) (bounded A);
-      bounded-b = rw (at-k .is-after .worst B) (bounded B);
-    }
+    -- after the last turn k is the number of steps
+    pub run-ends : steps ≤ k → IsAfter (pairOf a b) steps state
+    run-ends all = let last : k ≡ steps = omega (arith, at-k) in rw last at (at-k .is-after)
 
-    -- after the last step k is the number of steps that are made
-    pub comparing-reports : steps ≤ k
-        → reported state steps (ltb allowance (a .count + b .count)) (corner (a .corners) 0) ≡ report (pairOf a b) allowance
-    comparing-reports all =
-        let total : a .count + b .count ≡ stepCount (pairOf a b) = omega (arith, at-k) in
-        let last : k ≡ steps = omega (arith, at-k) in
-        rw (at-k .chosen, total, ← cornersOf-corner a 0 (omega (arith, at-k)))
-        (reported-after (pairOf a b) allowance state (rw (last, at-k .chosen, total) at (at-k .is-after)))
+module _ {a b : Outline} (outline-a : IsOutline a) (outline-b : IsOutline b) (places-a : length (a .corners) ≡ most)
+    (places-b : length (b .corners) ≡ most) (allowance : ℕ) {steps : ℕ} (chosen : steps ≡ stepsMade (a .count + b .count) allowance) where
+  -- the counts together are N, and A's first place has its corner 0
+  pub compare-reports : {state : State} → IsAfter (pairOf a b) steps state
+      → reported state steps (ltb allowance (a .count + b .count)) (corner (a .corners) 0) ≡ report (pairOf a b) allowance
+  compare-reports {state} is-after =
+      let counted-a = outline-counted outline-a places-a in
+      let total : a .count + b .count ≡ stepCount (pairOf a b) = omega (arith, counted-a, outline-counted outline-b places-b) in
+      rw (chosen, total, ← cornersOf-corner a 0 (omega (arith, counted-a, outline-a .accepted .at-least)))
+      (reported-after (pairOf a b) allowance state (rw (chosen, total) at is-after))

@@ -11,16 +11,16 @@ use Prim.Native.Nat.{ℕ, zero, suc, _+_, _-_, _<_}
 use native.Mathlib.Omega.{arith}
 use mathlib.Core.Path.{_≡_, refl, sym, _∙_, subst}
 use mathlib.Core.Logic.{_⊎_, inl, inr, ⊎-elim}
-use mathlib.Core.Bool.{Bool, true, false, cond, not, _&&_, _||_}
+use mathlib.Core.Bool.{Bool, true, false, cond}
 use mathlib.Core.List.{List, [], _∷_, _++_, List·Memᴰ, List·Memᴰ·head, List·Memᴰ·not-nil, List·Memᴰ·cases-cons}
 use mathlib.Core.List.{List·Memᴰ·append-cases, Memᴰ·append-right}
 use mathlib.Core.List.{List·Permᴰ, List·Permᴰ·nil, List·Permᴰ·cons, List·Permᴰ·swap, List·Permᴰ·trans}
 use mathlib.Core.List.{Pairwise, Pairwise·of-cons, rel-of-pairwise-cons}
-use lib.Dec.{eqb, eqb·suc-zero}
+use lib.Dec.{eqb·suc-zero}
 use lib.IntN.{pos}
 use lib.ListN.{length, getD, take, drop, length-append}
 use lib.Seq.{drop-cons, split-at}
-use lib.Signed.{_≤ℤ_, _<ℤ_, ≤ℤ-refl, clashℤ, ltZ}
+use lib.Signed.{_≤ℤ_, _<ℤ_, ≤ℤ-refl, clashℤ}
 use Rattle.integers.proofs.Order.{<ℤ-ltZ, ≤ℤ-ltZ, <ℤ-≤ℤ, ≰ℤ-<ℤ}
 use Rattle.integers.proofs.Certificate.{_≺_, _≗_, hyp, sq, eqn, _⊞_, _⊠_, prove}
 use Rattle.plane.specs.declared.Vector.{Vector}
@@ -40,13 +40,12 @@ use Rattle.hausdorff.specs.Sweep.{begin, after}
 use Rattle.hausdorff.proofs.OrderLaws.{Rounds, polygons-go-round, order-arranges, order-length, order-members}
 use Rattle.hausdorff.proofs.OrderLaws.{order-not-falling, order-ties, own-iff, own-append, own-members, own-rising}
 use Rattle.hausdorff.proofs.SweepLaws.{support-after}
-use Rattle.sweep.specs.State.{toCome}
+use Rattle.sweep.specs.State.{toCome, nextIsB}
 
 abbrev pub isNextB : Pair → ℕ → Bool
 isNextB pair k =
-    eqb (toCome pair k A) 0
-    || (not (eqb (toCome pair k B) 0)
-    && ltZ (cross (edge (pair A) (after pair k .support A)) (edge (pair B) (after pair k .support B))) (pos 0))
+    nextIsB (toCome pair k A) (toCome pair k B)
+    (cross (edge (pair A) (after pair k .support A)) (edge (pair B) (after pair k .support B)))
 
 abbrev pub nextSide : Pair → ℕ → Side
 nextSide pair k = cond (isNextB pair k) B A
@@ -196,8 +195,7 @@ module _ (pair : Pair) (polygons : Polygons pair) where
 -- what `nextSide` chooses where `is` and `js` are the edges of A and of B to come; a and b stand for none
 abbrev choose : Pair → ℕ → ℕ → List ℕ → List ℕ → Side
 choose pair a b is js =
-    cond (eqb (length is) 0 || (not (eqb (length js) 0)
-    && ltZ (cross (edge (pair A) (headOr a is)) (edge (pair B) (headOr b js))) (pos 0))) B A
+    cond (nextIsB (length is) (length js) (cross (edge (pair A) (headOr a is)) (edge (pair B) (headOr b js)))) B A
 
 -- This is the side of the edge that comes first.
 chosen : (pair : Pair) → Polygons pair → (a b i : ℕ) (front rest : List PairEdge) (s : Side)

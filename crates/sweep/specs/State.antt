@@ -1,24 +1,23 @@
 -- The state of the sweep as code, and how it stands for document 01's sweep.
---     walkOf          one side's part of a state
+--     sideState       one side's part of a state
 --     toCome          how many edges of a side are still to come after k steps
 --     IsAfter         a state is the sweep after k steps
---     Due             a state and two windows from which a step can be made: the sweep of some accepted pair after fewer than N steps,
+--     CanStep         a state and two windows from which a step can be made: the sweep of some accepted pair after fewer than N steps,
 --                     and what there is at its support corners
 -- What the parts of a step do, for the code alone (`proofs/StepLaws.antt` shows that together they are a step):
---     bIsNext         the next edge is B's
---     advanced, moved        a side's support corner moves on; that of the side whose edge is next does
---     mayChange, withWorst   measuring changes the worst so far of a side; the state measured, both ways
+--     nextIsB, bIsNext           the next edge is B's; told from what a step sees
+--     advanced, passed           a side's support corner moves on; that of the side whose edge is next does
+--     changesWorst, withWorst    measuring changes the worst so far of a side; the state measured, both ways
 --     Measurable, BoundedState, Passable    what they ask
 -- Where a sweep begins and what it reports, for the code alone:
 --     isLower         a corner is lower than another or, at the same height, left of it
---     Begins          one side's part before step 1
+--     beginning       one side's part before step 1
 --     reported        the report of a state after some steps
 use Prim.Native.Nat.{ℕ, _+_, _-_, _<_}
 use mathlib.Core.Path.{_≡_}
 use mathlib.Core.Bool.{Bool, cond, not, _&&_, _||_}
 use lib.Dec.{eqb}
-use mathlib.Core.List.{List}
-use lib.IntN.{pos}
+use lib.IntN.{ℤ, pos}
 use lib.ListN.{length, drop}
 use lib.Signed.{ltZ}
 use Rattle.integers.specs.Equal.{eqZ}
@@ -34,30 +33,28 @@ use Rattle.hausdorff.specs.Pair.{Pair, AcceptedPair, stepCount}
 use Rattle.hausdorff.specs.AngularOrder.{angularOrder, own}
 use Rattle.hausdorff.specs.Sweep.{after}
 use Rattle.hausdorff.specs.Worst.{keep, overall}
-use Rattle.hausdorff.specs.Report.{clearance}
-use Rattle.hausdorff.proofs.LowestLaws.{LowestLeftmost}
-use Rattle.sweep.specs.declared.Walk.{Walk}
+use Rattle.hausdorff.specs.Report.{orWithin, clearance}
+use Rattle.sweep.specs.declared.SideState.{SideState}
 use Rattle.sweep.specs.declared.State.{State}
 use Rattle.measuring.specs.declared.Window.{Window}
 use Rattle.measuring.specs.declared.Near.{Near}
-use Rattle.measuring.specs.Window.{windowAt, Seen}
+use Rattle.measuring.specs.Window.{windowAt, IsWindow}
 use Rattle.measuring.specs.Near.{nearWorst}
-use Rattle.measuring.specs.Improving.{BoundedWorst, improves}
-use Rattle.sweep.specs.Reporting.{orWithin}
+use Rattle.measuring.specs.Changes.{BoundedWorst, changes}
 
-abbrev pub walkOf : State → Side → Walk
-walkOf state A = state .a
-walkOf state B = state .b
+abbrev pub sideState : State → Side → SideState
+sideState state A = state .a
+sideState state B = state .b
 
 abbrev pub toCome : Pair → ℕ → Side → ℕ
 toCome pair k s = length (own s (drop k (angularOrder pair)))
 
 pub record IsAfter (pair : Pair) (k : ℕ) (state : State) : Type 0 where
-  pub support : (s : Side) → walkOf state s .support ≡ after pair k .support s
-  pub left : (s : Side) → walkOf state s .left ≡ toCome pair k s
-  pub worst : (s : Side) → walkOf state s .worst ≡ after pair k .worst s
+  pub support : (s : Side) → sideState state s .support ≡ after pair k .support s
+  pub remaining : (s : Side) → sideState state s .remaining ≡ toCome pair k s
+  pub worst : (s : Side) → sideState state s .worst ≡ after pair k .worst s
 
-pub record Due (state : State) (a b : Window) : Type 0 where
+pub record CanStep (state : State) (a b : Window) : Type 0 where
   pub pair : Pair
   pub steps : ℕ
   pub accepted : AcceptedPair pair
@@ -67,8 +64,8 @@ pub record Due (state : State) (a b : Window) : Type 0 where
   pub sees-b : b ≡ windowAt (pair B) (state .b .support)
 
 pub record Measurable (a b : Window) : Type 0 where
-  pub seen-a : Seen a
-  pub seen-b : Seen b
+  pub seen-a : IsWindow a
+  pub seen-b : IsWindow b
 
 pub record BoundedState (state : State) : Type 0 where
   pub bounded-a : BoundedWorst (state .a .worst)
@@ -78,48 +75,48 @@ pub record Passable (state : State) (a b : Window) : Type 0 where
   pub measurable : Measurable a b
   pub known-a : state .a .support < a .count
   pub known-b : state .b .support < b .count
-  pub more : 0 < state .a .left + state .b .left
+  pub more : 0 < state .a .remaining + state .b .remaining
 
--- A has no edge left, or both have some and B's is strictly first
+-- A has no edge left, or both have some and B's is strictly first: the side number of A's and then B's is below 0
+abbrev pub nextIsB : ℕ → ℕ → ℤ → Bool
+nextIsB remaining-a remaining-b number = eqb remaining-a 0 || (not (eqb remaining-b 0) && ltZ number (pos 0))
+
 abbrev pub bIsNext : Window → Window → ℕ → ℕ → Bool
-bIsNext a b aleft bleft =
-    eqb aleft 0 || (not (eqb bleft 0) && ltZ (cross (a .corner ⇀ a .after) (b .corner ⇀ b .after)) (pos 0))
+bIsNext a b remaining-a remaining-b = nextIsB remaining-a remaining-b (cross (a .corner ⇀ a .after) (b .corner ⇀ b .after))
 
 -- the support corner moves to the end of the edge that starts there
-abbrev pub advanced : ℕ → Walk → Walk
-advanced count walk = record { support = next count (walk .support); left = walk .left - 1; worst = walk .worst }
+abbrev pub advanced : ℕ → SideState → SideState
+advanced count side = record { support = next count (side .support); remaining = side .remaining - 1; worst = side .worst }
 
-abbrev pub moved : Window → Window → State → State
-moved a b state =
-    cond (bIsNext a b (state .a .left) (state .b .left))
+abbrev pub passed : Window → Window → State → State
+passed a b state =
+    cond (bIsNext a b (state .a .remaining) (state .b .remaining))
     (record { a = state .a; b = advanced (b .count) (state .b) })
     (record { a = advanced (a .count) (state .a); b = state .b })
 
-abbrev pub mayChange : Window → Window → Near → Near → State → Bool
-mayChange a b ofa ofb state =
-    improves (a .number) (a .corner) b ofa (state .a .worst) || improves (b .number) (b .corner) a ofb (state .b .worst)
+abbrev pub changesWorst : Window → Window → Near → Near → State → Bool
+changesWorst a b near-a near-b state =
+    changes (a .number) (a .corner) b near-a (state .a .worst) || changes (b .number) (b .corner) a near-b (state .b .worst)
 
 abbrev pub withWorst : Window → Window → Near → Near → State → State
-withWorst a b ofa ofb state = record {
+withWorst a b near-a near-b state = record {
   a = record {
     support = state .a .support;
-    left = state .a .left;
-    worst = keep (λ (i : ℕ). i) (state .a .worst) (nearWorst A (a .number) (a .corner) b ofa);
+    remaining = state .a .remaining;
+    worst = keep (λ (i : ℕ). i) (state .a .worst) (nearWorst A (a .number) (a .corner) b near-a);
   };
   b = record {
     support = state .b .support;
-    left = state .b .left;
-    worst = keep (λ (i : ℕ). i) (state .b .worst) (nearWorst B (b .number) (b .corner) a ofb);
+    remaining = state .b .remaining;
+    worst = keep (λ (i : ℕ). i) (state .b .worst) (nearWorst B (b .number) (b .corner) a near-b);
   };
 }
 
 abbrev pub isLower : Corner → Corner → Bool
 isLower p q = cond (eqZ (p .y) (q .y)) (ltZ (p .x) (q .x)) (ltZ (p .y) (q .y))
 
-pub record Begins (cs : List Corner) (walk : Walk) : Type 0 where
-  pub support : LowestLeftmost cs (walk .support)
-  pub left : walk .left ≡ length cs
-  pub worst : walk .worst ≡ None
+abbrev pub beginning : ℕ → ℕ → SideState
+beginning lowest count = record { support = lowest; remaining = count; worst = None }
 
 -- `first` is A's corner 0
 abbrev pub reported : State → ℕ → Bool → Corner → Report

@@ -1,11 +1,9 @@
-// Comparing two outlines by a sweep of both: the state that a step takes on, the steps, and the report. `hausdorff` defines what they are.
+// Comparing two outlines by a sweep of both: the sweep's state, a step, where the sweep begins, its steps, and the comparison. `hausdorff`
+// defines what they are; `reporting` has what the comparison reports.
 pub mod reporting;
 
-use hausdorff::Done;
 use hausdorff::Report;
 use hausdorff::Side;
-use hausdorff::Spent;
-use hausdorff::SupportCorners;
 use hausdorff::WorstSoFar;
 use measuring::Near;
 use measuring::Window;
@@ -14,38 +12,39 @@ use outline::corners::next;
 use outline::corners::previous;
 use plane::Corner;
 ghost use mathlib.Core.Path.{_≡_};
-ghost use Prim.Native.Nat.{suc, _<_, _≤_};
+ghost use Prim.Native.Nat.{suc, _+_, _<_, _≤_};
 ghost use Rattle.outline.specs.Convex.{IsOutline};
 ghost use Rattle.outline.specs.Corners.{cornersOf};
 ghost use Rattle.hausdorff.specs.Pair.{both};
 ghost use Rattle.hausdorff.specs.Report.{report};
-ghost use Rattle.hausdorff.proofs.LowestLaws.{LowestLeftmost};
-ghost use Rattle.sweep.specs.State.{IsAfter, Due, isLower, Begins, reported};
-ghost use Rattle.sweep.specs.State.{Measurable, BoundedState, Passable, bIsNext, advanced, moved, mayChange, withWorst};
+ghost use Rattle.hausdorff.specs.Lowest.{LowestLeftmost};
+ghost use Rattle.sweep.specs.State.{IsAfter, CanStep, isLower, beginning};
+ghost use Rattle.sweep.specs.State.{Measurable, BoundedState, Passable, bIsNext, advanced, passed, changesWorst, withWorst};
 
 // One outline's part of the sweep: its support corner (document 01: the corner in touch), how many of its edges are still to be passed,
 // and the worst so far of its corners.
-pub struct Walk {
+pub struct SideState {
     pub support: usize,
-    pub left: usize,
+    pub remaining: usize,
     pub worst: WorstSoFar,
 }
 
+// Document 01: the sweep's state, one part for each side.
 pub struct State {
-    pub a: Walk,
-    pub b: Walk,
+    pub a: SideState,
+    pub b: SideState,
 }
 
 // Whether the next edge is B's: if A has none left, or both have some and B's is strictly first. Directions that are compared are less
 // than half a turn apart (`proofs/NextEdge.antt`), so the sign of the side number decides.
-fn b_is_next(a: Window, b: Window, aleft: usize, bleft: usize) -> bool
+fn b_is_next(a: Window, b: Window, remaining_a: usize, remaining_b: usize) -> bool
     requires { ⌜ Measurable a b ⌝ }
-    ensures { λ r. ⌜ r ≡ bIsNext a b aleft bleft ⌝ }
+    ensures { λ r. ⌜ r ≡ bIsNext a b «remaining_a» «remaining_b» ⌝ }
 {
-    if aleft == 0 {
+    if remaining_a == 0 {
         return true;
     }
-    if bleft == 0 {
+    if remaining_b == 0 {
         return false;
     }
     plane::side(
@@ -55,92 +54,93 @@ fn b_is_next(a: Window, b: Window, aleft: usize, bleft: usize) -> bool
         < 0
 }
 
-impl Walk {
+impl SideState {
     // The support corner moves to the end of the edge that starts there.
-    fn advanced(self, count: usize) -> Walk
+    fn advanced(self, count: usize) -> SideState
         requires { ⌜ self .support < count ⌝ }
-        requires { ⌜ 0 < self .left ⌝ }
+        requires { ⌜ 0 < self .remaining ⌝ }
         ensures { λ r. ⌜ r ≡ advanced count self ⌝ }
     {
-        let mut moved = self;
-        moved.support = next(count, self.support);
-        moved.left = self.left - 1;
-        moved
+        let mut next_state = self;
+        next_state.support = next(count, self.support);
+        next_state.remaining = self.remaining - 1;
+        next_state
     }
 }
 
 impl State {
     // Passes the next edge.
-    fn moved(self, a: Window, b: Window) -> State
+    fn passed(self, a: Window, b: Window) -> State
         requires { ⌜ Passable self a b ⌝ }
-        ensures { λ r. ⌜ r ≡ moved a b self ⌝ }
+        ensures { λ r. ⌜ r ≡ passed a b self ⌝ }
     {
-        let onea = self.a;
-        let oneb = self.b;
-        if b_is_next(a, b, onea.left, oneb.left) {
+        let side_a = self.a;
+        let side_b = self.b;
+        if b_is_next(a, b, side_a.remaining, side_b.remaining) {
             return State {
-                a: onea,
-                b: oneb.advanced(b.count),
+                a: side_a,
+                b: side_b.advanced(b.count),
             };
         }
         State {
-            a: onea.advanced(a.count),
-            b: oneb,
+            a: side_a.advanced(a.count),
+            b: side_b,
         }
     }
 
-    // Whether measuring changes the worst so far of a side. Mostly it does not, and then nothing of the state is written.
-    fn may_change(self, a: Window, b: Window, ofa: Near, ofb: Near) -> bool
+    // Whether measuring changes the worst so far of a side. Mostly it does not; then a step changes a support corner and a count only, and
+    // builds no worst so far anew.
+    fn changes(self, a: Window, b: Window, near_a: Near, near_b: Near) -> bool
         requires { ⌜ Measurable a b ⌝ }
         requires { ⌜ BoundedState self ⌝ }
-        ensures { λ r. ⌜ r ≡ mayChange a b ofa ofb self ⌝ }
+        ensures { λ r. ⌜ r ≡ changesWorst a b «near_a» «near_b» self ⌝ }
     {
-        let onea = self.a;
-        let oneb = self.b;
-        let worsta = onea.worst;
-        let worstb = oneb.worst;
-        if measuring::improves(a.number, a.corner, b, ofa, worsta) {
+        let side_a = self.a;
+        let side_b = self.b;
+        let worst_a = side_a.worst;
+        let worst_b = side_b.worst;
+        if measuring::changes(a.number, a.corner, b, near_a, worst_a) {
             return true;
         }
-        measuring::improves(b.number, b.corner, a, ofb, worstb)
+        measuring::changes(b.number, b.corner, a, near_b, worst_b)
     }
 
     // Measures both ways.
-    fn measured(self, a: Window, b: Window, ofa: Near, ofb: Near) -> State
+    fn measured(self, a: Window, b: Window, near_a: Near, near_b: Near) -> State
         requires { ⌜ Measurable a b ⌝ }
         requires { ⌜ BoundedState self ⌝ }
-        ensures { λ r. ⌜ r ≡ withWorst a b ofa ofb self ⌝ }
+        ensures { λ r. ⌜ r ≡ withWorst a b «near_a» «near_b» self ⌝ }
     {
-        let onea = self.a;
-        let oneb = self.b;
-        let worsta = onea.worst;
-        let worstb = oneb.worst;
+        let side_a = self.a;
+        let side_b = self.b;
+        let worst_a = side_a.worst;
+        let worst_b = side_b.worst;
         State {
-            a: Walk {
-                support: onea.support,
-                left: onea.left,
-                worst: measuring::measure(Side::A, a.number, a.corner, b, ofa, worsta),
+            a: SideState {
+                support: side_a.support,
+                remaining: side_a.remaining,
+                worst: measuring::measure(Side::A, a.number, a.corner, b, near_a, worst_a),
             },
-            b: Walk {
-                support: oneb.support,
-                left: oneb.left,
-                worst: measuring::measure(Side::B, b.number, b.corner, a, ofb, worstb),
+            b: SideState {
+                support: side_b.support,
+                remaining: side_b.remaining,
+                worst: measuring::measure(Side::B, b.number, b.corner, a, near_b, worst_b),
             },
         }
     }
 
     // Document 01: a step first measures and then passes the next edge. `a` and `b` are what it sees of the outlines.
     pub fn step(self, a: Window, b: Window) -> State
-        requires { ⌜ Due self a b ⌝ }
-        ensures { λ r. ⌜ ((due : Due self a b) → IsAfter (due .pair) (suc (due .steps)) r) ⌝ }
+        requires { ⌜ CanStep self a b ⌝ }
+        ensures { λ r. ⌜ ((can : CanStep self a b) → IsAfter (can .pair) (suc (can .steps)) r) ⌝ }
     {
-        let ofa = measuring::find(a.corner, b);
-        let ofb = measuring::find(b.corner, a);
-        if !self.may_change(a, b, ofa, ofb) {
-            return self.moved(a, b);
+        let near_a = measuring::find(a.corner, b);
+        let near_b = measuring::find(b.corner, a);
+        if !self.changes(a, b, near_a, near_b) {
+            return self.passed(a, b);
         }
-        let measured = self.measured(a, b, ofa, ofb);
-        measured.moved(a, b)
+        let measured = self.measured(a, b, near_a, near_b);
+        measured.passed(a, b)
     }
 }
 
@@ -168,94 +168,67 @@ fn lowest(o: Outline) -> usize
     found
 }
 
-// One outline's part before step 1.
-fn walk_from(o: Outline) -> Walk
-    requires { ⌜ IsOutline o ⌝ }
-    ensures { λ r. ⌜ Begins (cornersOf o) r ⌝ }
+// One side's part before step 1, where `lowest` is its outline's lowest, leftmost corner.
+fn begin(lowest: usize, count: usize) -> SideState
+    ensures { λ r. ⌜ r ≡ beginning lowest count ⌝ }
 {
-    Walk {
-        support: lowest(o),
-        left: o.count,
+    SideState {
+        support: lowest,
+        remaining: count,
         worst: WorstSoFar::None,
     }
 }
 
-// What there is to report after the steps made. `first` is A's corner 0.
-fn report(state: State, steps: u32, is_spent: bool, first: Corner) -> Report
-    requires { ⌜ BoundedState state ⌝ }
-    ensures { λ r. ⌜ r ≡ reported state steps «is_spent» first ⌝ }
+// The sweep after `steps` steps. No step copies an outline.
+fn run(a: Outline, b: Outline, steps: u32) -> State
+    requires { ⌜ IsOutline a ⌝ }
+    requires { ⌜ IsOutline b ⌝ }
+    requires { ⌜ steps ≤ a .count + b .count ⌝ }
+    ensures { λ r. ⌜ IsAfter (both (cornersOf a) (cornersOf b)) steps r ⌝ }
 {
-    let onea = state.a;
-    let oneb = state.b;
-    let worsta = onea.worst;
-    let worstb = oneb.worst;
-    let worst = reporting::overall(worsta, worstb);
-    if is_spent {
-        return Report::Spent(Spent {
-            steps: steps,
-            support: SupportCorners {
-                a: onea.support,
-                b: oneb.support,
-            },
-            worst: worst,
-        });
+    let n = a.count;
+    let m = b.count;
+    let mut state = State {
+        a: begin(lowest(a), n),
+        b: begin(lowest(b), m),
+    };
+    let mut k = 0;
+    while k < steps {
+        let i = state.a.support;
+        let window_a = Window {
+            count: n,
+            number: i,
+            farbefore: a.corners[previous(n, previous(n, i))],
+            before: a.corners[previous(n, i)],
+            corner: a.corners[i],
+            after: a.corners[next(n, i)],
+            farafter: a.corners[next(n, next(n, i))],
+        };
+        let j = state.b.support;
+        let window_b = Window {
+            count: m,
+            number: j,
+            farbefore: b.corners[previous(m, previous(m, j))],
+            before: b.corners[previous(m, j)],
+            corner: b.corners[j],
+            after: b.corners[next(m, j)],
+            farafter: b.corners[next(m, next(m, j))],
+        };
+        state = state.step(window_a, window_b);
+        k += 1;
     }
-    let answer = reporting::answer(worst, first);
-    let gap = answer.gap;
-    Report::Done(Done {
-        steps: steps,
-        answer: answer,
-        clearance: reporting::clearance(gap),
-    })
+    state
 }
 
-// Compares two outlines: as many steps as are allowed, at most one for each edge of both. No step copies an outline.
+// Compares two outlines: as many steps as are allowed, at most one for each edge of both.
 pub fn compare(a: Outline, b: Outline, allowance: u32) -> Report
     requires { ⌜ IsOutline a ⌝ }
     requires { ⌜ IsOutline b ⌝ }
     ensures { λ r. ⌜ r ≡ report (both (cornersOf a) (cornersOf b)) allowance ⌝ }
 {
-    let n = a.count;
-    let m = b.count;
-    let total = (n + m) as u32;
+    let total = (a.count + b.count) as u32;
     let is_spent = allowance < total;
     let steps = if is_spent { allowance } else { total };
-    let mut state = State {
-        a: walk_from(a),
-        b: walk_from(b),
-    };
-    let mut k = 0;
-    while k < steps {
-        let i = state.a.support;
-        let before = previous(n, i);
-        let after = next(n, i);
-        let farbefore = previous(n, before);
-        let farafter = next(n, after);
-        let seena = Window {
-            count: n,
-            number: i,
-            farbefore: a.corners[farbefore],
-            before: a.corners[before],
-            corner: a.corners[i],
-            after: a.corners[after],
-            farafter: a.corners[farafter],
-        };
-        let j = state.b.support;
-        let before = previous(m, j);
-        let after = next(m, j);
-        let farbefore = previous(m, before);
-        let farafter = next(m, after);
-        let seenb = Window {
-            count: m,
-            number: j,
-            farbefore: b.corners[farbefore],
-            before: b.corners[before],
-            corner: b.corners[j],
-            after: b.corners[after],
-            farafter: b.corners[farafter],
-        };
-        state = state.step(seena, seenb);
-        k += 1;
-    }
-    report(state, steps, is_spent, a.corners[0])
+    let state = run(a, b, steps);
+    reporting::report(state, steps, is_spent, a.corners[0])
 }

@@ -1,12 +1,16 @@
 // What a sweep reports.
+use crate::State;
 use hausdorff::CornerGap;
+use hausdorff::Done;
+use hausdorff::Report;
 use hausdorff::Side;
+use hausdorff::Spent;
+use hausdorff::SupportCorners;
 use hausdorff::WorstSoFar;
 use integers::fraction;
 use integers::fraction::Fraction;
 use integers::fraction::Order;
 use integers::root;
-use nearest::Feature;
 use nearest::answers;
 use plane::Corner;
 ghost use mathlib.Core.Path.{_≡_};
@@ -14,9 +18,9 @@ ghost use Prim.Native.Nat.{_<_};
 ghost use Rattle.integers.specs.Fraction.{Bounded};
 ghost use Rattle.hausdorff.specs.CornerGap.{worse};
 ghost use Rattle.hausdorff.specs.Worst.{overall};
-ghost use Rattle.hausdorff.specs.Report.{clearance};
-ghost use Rattle.measuring.specs.Improving.{BoundedWorst};
-ghost use Rattle.sweep.specs.Reporting.{orWithin};
+ghost use Rattle.hausdorff.specs.Report.{orWithin, clearance};
+ghost use Rattle.measuring.specs.Changes.{BoundedWorst};
+ghost use Rattle.sweep.specs.State.{BoundedState, reported};
 
 // The one with the greater gap; the first of equals.
 fn worse(w: CornerGap, z: CornerGap) -> CornerGap
@@ -31,8 +35,8 @@ fn worse(w: CornerGap, z: CornerGap) -> CornerGap
     }
 }
 
-// The worst so far of both sides, of A's and B's.
-pub fn overall(a: WorstSoFar, b: WorstSoFar) -> WorstSoFar
+// The worse of A's and B's; A's where the gaps are equal, or none.
+fn overall(a: WorstSoFar, b: WorstSoFar) -> WorstSoFar
     requires { ⌜ BoundedWorst a ⌝ }
     requires { ⌜ BoundedWorst b ⌝ }
     ensures { λ r. ⌜ r ≡ overall a b ⌝ }
@@ -47,30 +51,48 @@ pub fn overall(a: WorstSoFar, b: WorstSoFar) -> WorstSoFar
 }
 
 // The answer: the worst so far after all steps or, if it is none, A's corner 0, at `first`, within.
-pub fn answer(worst: WorstSoFar, first: Corner) -> CornerGap
+fn answer(worst: WorstSoFar, first: Corner) -> CornerGap
     ensures { λ r. ⌜ r ≡ orWithin first worst ⌝ }
 {
     match worst {
         WorstSoFar::Worst(w) => w,
-        WorstSoFar::None => {
-            let a = answers::within(first);
-            let gap = a.gap;
-            let point = a.point;
-            CornerGap {
-                side: Side::A,
-                corner: 0,
-                feature: Feature::Within,
-                gap: gap,
-                point: point,
-            }
-        }
+        WorstSoFar::None => measuring::named(Side::A, 0, answers::within(first)),
     }
 }
 
 // The clearance figure of a gap.
-pub fn clearance(gap: Fraction) -> u64
+fn clearance(gap: Fraction) -> u64
     requires { ⌜ 0 < gap .lower ⌝ }
     ensures { λ r. ⌜ r ≡ clearance gap ⌝ }
 {
     root::root(gap.upper / gap.lower)
+}
+
+// What there is to report after the steps made. `first` is A's corner 0.
+pub fn report(state: State, steps: u32, is_spent: bool, first: Corner) -> Report
+    requires { ⌜ BoundedState state ⌝ }
+    ensures { λ r. ⌜ r ≡ reported state steps «is_spent» first ⌝ }
+{
+    let side_a = state.a;
+    let side_b = state.b;
+    let worst_a = side_a.worst;
+    let worst_b = side_b.worst;
+    let worst = overall(worst_a, worst_b);
+    if is_spent {
+        return Report::Spent(Spent {
+            steps: steps,
+            support: SupportCorners {
+                a: side_a.support,
+                b: side_b.support,
+            },
+            worst: worst,
+        });
+    }
+    let answer = answer(worst, first);
+    let gap = answer.gap;
+    Report::Done(Done {
+        steps: steps,
+        answer: answer,
+        clearance: clearance(gap),
+    })
 }

@@ -8,11 +8,11 @@ use Rattle.calls.proofs.compare.Tie as tie
 read-requires : tie.Need-read-requires
 read-requires c κs = search needs
 
-enum-known-verdicta : tie.Need-enum-known-verdicta
-enum-known-verdicta c = search needs
+enum-known-verdict-a : tie.Need-enum-known-verdict-a
+enum-known-verdict-a c = search needs
 
 returns : tie.Need-returns
-returns c = call-promises _ _ _ (call-unread-a _ _ _ (c .before .before .before .read .ensures) (c .before .verdicta .given .1))
+returns c = call-promises _ _ _ (call-unread-a _ _ _ (c .before .before .before .read .ensures) (c .before .verdict-a .given .1))
 
 enum-told : tie.Need-enum-told
 enum-told c = search needs
@@ -20,14 +20,14 @@ enum-told c = search needs
 read-requires-2 : tie.Need-read-requires-2
 read-requires-2 c κs = search needs
 
-enum-known-verdictb : tie.Need-enum-known-verdictb
-enum-known-verdictb c = search needs
+enum-known-verdict-b : tie.Need-enum-known-verdict-b
+enum-known-verdict-b c = search needs
 
 returns-2 : tie.Need-returns-2
 returns-2 c =
     call-promises _ _ _ (call-unread-b _ _ _
     (c .before .before .before .before .before .before .read .ensures) (c .before .before .before .before .enum-told .given .1)
-    (c .before .before .before .read2 .ensures) (c .before .verdictb .given .1))
+    (c .before .before .before .read2 .ensures) (c .before .verdict-b .given .1))
 
 enum-told-2 : tie.Need-enum-told-2
 enum-told-2 c = search needs
@@ -65,11 +65,11 @@ compare-spec =
     tie.close
     (tie.spec
     read-requires
-    enum-known-verdicta
+    enum-known-verdict-a
     returns
     enum-told
     read-requires-2
-    enum-known-verdictb
+    enum-known-verdict-b
     returns-2
     enum-told-2
     compare-requires

@@ -27,7 +27,8 @@ refusal-requires c κs = search needs
 returns-2 : tie.Need-returns-2
 returns-2 c =
     ap Refused (c .refusal .ensures)
-    ∙ call-out-of-range _ _ (c .before .before .before .before .before .read-outline .ensures) (c .before .before .before .enum-told .given .1) (cc)
+    ∙ call-out-of-range _ _ (c .before .before .before .before .before .read-outline .ensures)
+    (c .before .before .before .enum-told .given .1) (cc)
 
 nearest-requires : tie.Need-nearest-requires
 nearest-requires c κs =
@@ -36,7 +37,8 @@ nearest-requires c κs =
 returns-3 : tie.Need-returns-3
 returns-3 c =
     ap Found (c .nearest .ensures)
-    ∙ call-found _ _ (c .before .before .before .before .before .read-outline .ensures) (c .before .before .before .enum-told .given .1) (cc)
+    ∙ call-found _ _ (c .before .before .before .before .before .read-outline .ensures)
+    (c .before .before .before .enum-told .given .1) (cc)
 
 pub nearest-point-spec : {M : Type 1} → statement M
 nearest-point-spec =

@@ -1,29 +1,29 @@
--- `sweep::measuring::end_is_nearest` makes the definition's two tests, the second of them first.
+-- `measuring::end_is_nearest` makes the definition's tests in order.
 use borrow.Author.Needs.{needs, sfits-of}
-use mathlib.Core.Bool.{Bool, true, false, not, and-true, and-false}
-use mathlib.Core.Path.{_≡_}
+use mathlib.Core.Bool.{true}
+use mathlib.Core.Path.{_≡_, _∙_}
 use lib.IntN.{ℤ, pos}
-use lib.Signed.{ltZ}
+use lib.Signed.{leZ}
 use mir.Facts.{toZ-ofZ}
 use mir.Syntax.{w64}
-use mir.Val.{SFits}
+use mir.Val.{SFits, toZ, ofZ}
 use Rattle.integers.proofs.Order.{leZ-not}
-use Rattle.plane.specs.declared.Corner.{Corner}
-use Rattle.plane.specs.Vector.{_⇀_, dot, same}
+use Rattle.plane.specs.Vector.{_⇀_, dot}
 use Rattle.plane.proofs.Range.{span-difference}
-use Rattle.measuring.specs.Arm.{endIsNearest}
 use Rattle.measuring.proofs.end_is_nearest.Statement.{statement}
 use Rattle.measuring.proofs.end_is_nearest.Tie as tie
 
-module _ (v end beyond : Corner) where
-  abbrev z : ℤ
-  z = dot (end ⇀ v) (end ⇀ beyond)
+-- the number that is tested: how far past `end` the foot lies, on the edge from there to `beyond`
+abbrev past : tie.Start → ℤ
+past c = let a = c .args in dot (a .end ⇀ a .v) (a .end ⇀ a .beyond)
 
-  pulled-on : ltZ (pos 0) z ≡ true → false ≡ endIsNearest v end beyond
-  pulled-on e = rw (leZ-not z (pos 0), e, and-false)
+past-is : (c : tie.After-dot) → toZ w64 (ofZ w64 (c .dot .result)) ≡ past (c .before .before .before)
+past-is c =
+    let fits : SFits w64 (c .dot .result) = search sfits-of in
+    toZ-ofZ fits ∙ c .dot .ensures ∙ (rw (c .before .difference2 .ensures, c .before .before .difference .ensures))
 
-  by-same : {s : Bool} → ltZ (pos 0) z ≡ false → s ≡ same end v → not s ≡ endIsNearest v end beyond
-  by-same e is = rw (leZ-not z (pos 0), e, is, and-true)
+not-past : (c : tie.Else1) → leZ (past (c .before .before .before .before)) (pos 0) ≡ true
+not-past c = rw (leZ-not (past (c .before .before .before .before)) (pos 0), ← past-is (c .before), c .if1 .left)
 
 difference-requires : tie.Need-difference-requires
 difference-requires c κs = search needs
@@ -35,14 +35,19 @@ dot-requires : tie.Need-dot-requires
 dot-requires c κs = search span-difference
 
 returns : tie.Need-returns
-returns c = let fits : SFits w64 (c .before .dot .result) = search sfits-of in pulled-on _ _ _ (cc (toZ-ofZ fits))
-
-same-requires : tie.Need-same-requires
-same-requires c κs = search needs
+returns c = rw (leZ-not (past (c .before .before .before .before)) (pos 0), ← past-is (c .before), c .if1 .taken)
 
 returns-2 : tie.Need-returns-2
-returns-2 c =
-    let fits : SFits w64 (c .before .before .dot .result) = search sfits-of in by-same _ _ _ (cc (toZ-ofZ fits)) (c .same .ensures)
+returns-2 c = rw (not-past (c .before), c .if2 .taken)
+
+is-right-of-requires : tie.Need-is-right-of-requires
+is-right-of-requires c κs = search span-difference
+
+returns-3 : tie.Need-returns-3
+returns-3 c =
+    let made = c .before .before .before .before in
+    rw (not-past (c .before .before), c .before .if2 .left, ← made .difference2 .ensures, ← made .before .difference .ensures)
+    (c .is-right-of .ensures)
 
 pub end-is-nearest-spec : {M : Type 1} → statement M
 end-is-nearest-spec =
@@ -52,5 +57,6 @@ end-is-nearest-spec =
     difference-requires-2
     dot-requires
     returns
-    same-requires
-    returns-2)
+    returns-2
+    is-right-of-requires
+    returns-3)

@@ -9,7 +9,7 @@ use Rattle.integers.specs.declared.fraction.Fraction.{Fraction}
 use Rattle.integers.specs.declared.fraction.Order.{Order}
 use Rattle.integers.specs.declared.fraction.Order.the-variants.{Less, Equal, Greater}
 use Rattle.hausdorff.specs.declared.CornerGap.{CornerGap}
-use Rattle.measuring.specs.Improving.{isWorse}
+use Rattle.measuring.specs.Changes.{isWorse}
 use Rattle.measuring.proofs.is_worse.Statement.{statement}
 use Rattle.measuring.proofs.is_worse.Tie as tie
 
@@ -45,17 +45,17 @@ enum-told-3 c = search needs
 returns : tie.Need-returns
 returns c =
     let given = c .before .before .before .args in
-    answer-is (given .gap) (given .corner) (given .old) Less (c .before .before .compare .ensures) (c .enum-told .given .1)
+    answer-is (given .gap) (given .number) (given .old) Less (c .before .before .compare .ensures) (c .enum-told .given .1)
 
 returns-2 : tie.Need-returns-2
 returns-2 c =
     let told = c .before in let given = told .before .before .before .args in
-    answer-is (given .gap) (given .corner) (given .old) Equal (told .before .before .compare .ensures) (told .enum-told2 .given .1)
+    answer-is (given .gap) (given .number) (given .old) Equal (told .before .before .compare .ensures) (told .enum-told2 .given .1)
 
 returns-3 : tie.Need-returns-3
 returns-3 c =
     let given = c .before .before .before .args in
-    answer-is (given .gap) (given .corner) (given .old) Greater (c .before .before .compare .ensures) (c .enum-told3 .given .1)
+    answer-is (given .gap) (given .number) (given .old) Greater (c .before .before .compare .ensures) (c .enum-told3 .given .1)
 
 pub is-worse-spec : {M : Type 1} → statement M
 is-worse-spec =

@@ -2,26 +2,29 @@
 use borrow.Author.Needs.{needs}
 use borrow.Author.Tests.{not-true, not-false}
 use mathlib.Core.Path.{sym}
-use Rattle.measuring.proofs.ImprovingLaws.{keeps-old, takes-new}
+use Rattle.measuring.proofs.ChangesLaws.{keeps-old, takes-new}
 use Rattle.measuring.proofs.measure.Statement.{statement}
 use Rattle.measuring.proofs.measure.Tie as tie
 
-improves-requires : tie.Need-improves-requires
-improves-requires c κs = search needs
+changes-requires : tie.Need-changes-requires
+changes-requires c κs = search needs
 
 returns : tie.Need-returns
 returns c =
     let given = c .before .before .args in
-    sym (keeps-old (given .side) (given .corner) (given .v) (given .w) (given .f) (given .old) (not-true _ (cc)))
+    sym (keeps-old (given .side) (given .number) (given .v) (given .w) (given .f) (given .old) (not-true _ (cc)))
 
 values-requires : tie.Need-values-requires
 values-requires c κs = search needs
 
+named-requires : tie.Need-named-requires
+named-requires c κs = search needs
+
 returns-2 : tie.Need-returns-2
 returns-2 c =
-    let given = c .before .before .before .before .before .args in
-    let taken = takes-new (given .side) (given .corner) (given .v) (given .w) (given .f) (given .old) (not-false _ (cc)) in
-    rw (taken, c .before .before .values .ensures)
+    let given = c .before .before .before .before .args in
+    let taken = takes-new (given .side) (given .number) (given .v) (given .w) (given .f) (given .old) (not-false _ (cc)) in
+    rw (taken, c .named .ensures, c .before .values .ensures)
 
 pub measure-spec : {M : Type 1} → statement M
-measure-spec = tie.close (tie.spec improves-requires returns values-requires returns-2)
+measure-spec = tie.close (tie.spec changes-requires returns values-requires named-requires returns-2)

@@ -1,6 +1,6 @@
 -- `measuring::values` answers for each part of the window.
 use borrow.Author.Needs.{needs}
-use Rattle.measuring.proofs.WindowLaws.{seen-below, seen-range}
+use Rattle.measuring.proofs.WindowLaws.{window-below, window-range}
 use Rattle.measuring.proofs.values.Statement.{statement}
 use Rattle.measuring.proofs.values.Tie as tie
 
@@ -14,40 +14,40 @@ enum-told-2 : tie.Need-enum-told-2
 enum-told-2 c = search needs
 
 at-corner-requires : tie.Need-at-corner-requires
-at-corner-requires c κs = let range = seen-range (c .before .before .pre .1) in search needs
+at-corner-requires c κs = let range = window-range (c .before .before .pre .1) in search needs
 
 enum-told-3 : tie.Need-enum-told-3
 enum-told-3 c = search needs
 
 on-edge-requires : tie.Need-on-edge-requires
-on-edge-requires c κs = let range = seen-range (c .before .before .pre .1) in search needs
+on-edge-requires c κs = let range = window-range (c .before .before .pre .1) in search needs
 
 enum-told-4 : tie.Need-enum-told-4
 enum-told-4 c = search needs
 
 previous-requires : tie.Need-previous-requires
-previous-requires c κs = seen-below (c .before .before .pre .1)
+previous-requires c κs = window-below (c .before .before .pre .1)
 
 on-edge-requires-2 : tie.Need-on-edge-requires-2
-on-edge-requires-2 c κs = let range = seen-range (c .before .before .before .pre .1) in search needs
+on-edge-requires-2 c κs = let range = window-range (c .before .before .before .pre .1) in search needs
 
 enum-told-5 : tie.Need-enum-told-5
 enum-told-5 c = search needs
 
 next-requires : tie.Need-next-requires
-next-requires c κs = seen-below (c .before .before .pre .1)
+next-requires c κs = window-below (c .before .before .pre .1)
 
 at-corner-requires-2 : tie.Need-at-corner-requires-2
-at-corner-requires-2 c κs = let range = seen-range (c .before .before .before .pre .1) in search needs
+at-corner-requires-2 c κs = let range = window-range (c .before .before .before .pre .1) in search needs
 
 enum-told-6 : tie.Need-enum-told-6
 enum-told-6 c = search needs
 
 previous-requires-2 : tie.Need-previous-requires-2
-previous-requires-2 c κs = seen-below (c .before .before .pre .1)
+previous-requires-2 c κs = window-below (c .before .before .pre .1)
 
 at-corner-requires-3 : tie.Need-at-corner-requires-3
-at-corner-requires-3 c κs = let range = seen-range (c .before .before .before .pre .1) in search needs
+at-corner-requires-3 c κs = let range = window-range (c .before .before .before .pre .1) in search needs
 
 returns : tie.Need-returns
 returns c = rw (c .before .enum-told .given .1) (c .within .ensures)

@@ -5,7 +5,7 @@ use mir.Facts.{toZ-ofZ}
 use mir.Syntax.{w64}
 use mir.Val.{SFits}
 use Rattle.plane.proofs.Range.{span-difference}
-use Rattle.measuring.proofs.WindowLaws.{seen-range}
+use Rattle.measuring.proofs.WindowLaws.{window-range}
 use Rattle.sweep.proofs.b_is_next.Statement.{statement}
 use Rattle.sweep.proofs.b_is_next.Tie as tie
 
@@ -23,8 +23,8 @@ difference-requires-2 c κs = search needs
 
 side-requires : tie.Need-side-requires
 side-requires c κs =
-    let in-a = seen-range (c .before .before .before .before .pre .seen-a) in
-    let in-b = seen-range (c .before .before .before .before .pre .seen-b) in
+    let in-a = window-range (c .before .before .before .before .pre .seen-a) in
+    let in-b = window-range (c .before .before .before .before .pre .seen-b) in
     search span-difference
 
 returns-3 : tie.Need-returns-3

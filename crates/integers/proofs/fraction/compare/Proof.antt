@@ -1,21 +1,21 @@
--- `integers::fraction::compare` answers the order of the cross products: each arm's answer is what `order-digits` says.
+-- `integers::fraction::compare` answers the order of the cross products: each arm's answer is what `order-by-parts` says.
 use borrow.Author.Needs.{needs}
 use mathlib.Core.Path.{_≡_, _∙_}
 use Prim.Native.Nat.{ℕ, _/_, _%_, _^_}
-use Rattle.integers.proofs.FractionLaws.{order-digits, then}
+use Rattle.integers.proofs.FractionLaws.{order-by-parts, then}
 use Rattle.integers.specs.Fraction.{order}
-use Rattle.integers.specs.declared.fraction.Digits.{Digits}
+use Rattle.integers.specs.declared.fraction.Parts.{Parts}
 use Rattle.integers.specs.declared.fraction.Order.{Order}
 use Rattle.integers.specs.declared.fraction.Order.the-variants.{Less, Equal, Greater}
 use Rattle.integers.proofs.fraction.compare.Statement.{statement}
 use Rattle.integers.proofs.fraction.compare.Tie as tie
 
--- What the high digits' answer o, and the low digits' where it is Equal, make of two numbers.
+-- What the high parts' answer o, and the low parts' where it is Equal, make of two numbers.
 decided :
-    {p q : Digits} (m n : ℕ) (o : Order) {w : Order} → p ≡ record { high = m / 2 ^ 32; low = m % 2 ^ 32 } →
+    {p q : Parts} (m n : ℕ) (o : Order) {w : Order} → p ≡ record { high = m / 2 ^ 32; low = m % 2 ^ 32 } →
     q ≡ record { high = n / 2 ^ 32; low = n % 2 ^ 32 } → w ≡ order (p .high) (q .high) → w ≡ o →
     then o (order (p .low) (q .low)) ≡ order m n
-decided m n o first second e told = cc (order-digits m n)
+decided m n o first second e told = cc (order-by-parts m n)
 
 product-requires : tie.Need-product-requires
 product-requires c κs = search needs

@@ -1,6 +1,6 @@
--- `integers::fraction::product` answers the digits of the product, by `product-digits`, and what it computes fits 64 bits.
+-- `integers::fraction::product` answers the parts of the product, by `product-parts`, and what it computes fits 64 bits.
 use native.Mathlib.Omega.{arith}
-use Rattle.integers.proofs.FractionLaws.{low-fits, high-fits, product-digits}
+use Rattle.integers.proofs.FractionLaws.{low-fits, high-fits, product-parts}
 use Rattle.integers.proofs.fraction.product.Statement.{statement}
 use Rattle.integers.proofs.fraction.product.Tie as tie
 
@@ -14,7 +14,7 @@ add-high : tie.Need-add-high
 add-high c = record { fits = omega (arith, high-fits (c .fits .x .fits) (c .pre)) }
 
 returns : tie.Need-returns
-returns c = product-digits _ _
+returns c = product-parts _ _
 
 pub product-spec : {M : Type 1} → statement M
 product-spec = tie.close (tie.spec mul-low mul-high add-high returns)

@@ -1,0 +1,28 @@
+-- `reporting::report` builds the report from the worst so far of both sides.
+use borrow.Author.Needs.{needs}
+use Rattle.sweep.proofs.CompareLaws.{answer-positive}
+use Rattle.sweep.proofs.reporting.report.Statement.{statement}
+use Rattle.sweep.proofs.reporting.report.Tie as tie
+
+overall-requires : tie.Need-overall-requires
+overall-requires c κs = search needs
+
+returns : tie.Need-returns
+returns c = rw (c .if1 .taken, c .before .overall .ensures)
+
+answer-requires : tie.Need-answer-requires
+answer-requires c κs = search needs
+
+clearance-requires : tie.Need-clearance-requires
+clearance-requires c κs =
+    let worst = c .before .before .before in let start = worst .before .before .before in
+    rw (c .before .answer .ensures, worst .overall .ensures) (answer-positive (start .args .state) _ (start .pre))
+
+returns-2 : tie.Need-returns-2
+returns-2 c =
+    let done = c .before .before .before in
+    rw (done .if1 .left, c .clearance .ensures, c .before .before .answer .ensures, done .before .overall .ensures)
+
+pub report-spec : {M : Type 1} → statement M
+report-spec =
+    tie.close (tie.spec overall-requires returns answer-requires clearance-requires returns-2)
