@@ -3,9 +3,9 @@
 --     partAfter, partBefore      the part of these edges that v is nearest to
 --     near-counted               what they tell together is v's nearest feature, if v counts, and else none
 --     near-window                the same of any window of an accepted outline
--- The part of an edge says which of its local tests hold (`part-means`). A point counts exactly where its nearest feature is at the support
--- corner, and only one feature has a local test that holds; so a part that is found is that feature, and if none is, the point does
--- not count.
+-- The part of an edge says which of its local tests hold (`part-means`); that v is not a corner itself is told by the sides of the two edges
+-- there (`corner-by-right`). A point counts exactly where its nearest feature is at the support corner, and only one feature
+-- has a local test that holds; so a part that is found is that feature, and if none is, the point does not count.
 use Prim.Native.Nat.{ℕ, _<_}
 use mathlib.Core.Path.{_≡_, refl, sym, ap, subst, _∙_}
 use mathlib.Core.Logic.{_↔_, Iff·rfl, inl, inr}

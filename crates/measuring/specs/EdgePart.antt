@@ -4,7 +4,7 @@
 --     edgePart        the part of an edge at the support corner that v is nearest to
 --     cornerIf        what is found for v whose foot is past the support corner on neither edge
 --     byParts         what the parts of the two edges tell: of the edge after the support corner, and of the edge before it
-use mathlib.Core.Bool.{Bool, true, false, cond, _&&_, _||_}
+use mathlib.Core.Bool.{Bool, cond, _&&_, _||_}
 use lib.IntN.{pos}
 use lib.Signed.{leZ, ltZ}
 use Rattle.plane.specs.declared.Corner.{Corner}
