@@ -7,10 +7,10 @@ from functools import cmp_to_key
 from math import gcd, isqrt
 from pathlib import Path
 
-from reference import LIMIT, Comparing, compare_all, half, refusal, side_number
+from reference import LIMIT, Comparing, compare, compare_all, corners, half, is_within, refusal, side_number
 
 SEED = 20261115
-MOST = 2**32 - 1
+LARGEST_ALLOWANCE = 2**32 - 1
 
 
 class Random:
@@ -116,7 +116,8 @@ def large(random):
 
 
 def beside(random, piece):
-    """A second outline, by its position to the first: apart, overlapping, nested, touching, the same, parallel."""
+    """A second outline: 0 mostly apart, 1 the same moved, 2 the same enlarged, 3 turned by half a turn (parallel edges), 4 the same,
+    5 touching at a corner, 6 with a corner less, 7 the same with corners moved by one, 8 another one over it."""
     way = random.below(9)
     reach = max(max(abs(x), abs(y)) for x, y in piece)
     if way == 0:
@@ -160,11 +161,11 @@ def near_tie(random):
                 continue
             a = hull(corners + [(0, random.between(-2000, -500))])
             x, y = s * s * lengths[1], t * t * lengths[0]
-            if len(a) == 3 and fits(a) and x != y and abs(x - y) << 53 < x and leads(a, b, corners):
+            if len(a) == 3 and fits(a) and x != y and abs(x - y) << 53 < x and two_greatest(a, b, corners):
                 return a, b
 
 
-def leads(a, b, corners):
+def two_greatest(a, b, corners):
     """The greatest two gaps are on edges, and are those of two corners of A."""
     comparing = Comparing(a, b)
     both = sorted(range(len(a)), key=lambda i: a[i] not in corners)[:2]
@@ -193,13 +194,9 @@ def over(start, run, length, side):
     x, y = bezout(dx, -dy)
     x, y = -side * y, -side * x
     along = (x * dx + y * dy) // length
-    for shift in (along, along - 1):
-        px, py = x - shift * dx, y - shift * dy
-        if 0 < px * dx + py * dy < length:
-            p = (start[0] + px, start[1] + py)
-            if fits([p]) and dx * py - dy * px == -side:
-                return p
-    return None
+    px, py = x - along * dx, y - along * dy
+    p = (start[0] + px, start[1] + py)
+    return p if 0 < px * dx + py * dy < length and fits([p]) else None
 
 
 def bezout(a, b):
@@ -214,33 +211,52 @@ def bezout(a, b):
 
 def allowances(random, a, b):
     n = (len(a) + len(b)) // 2
-    return sorted({0, 1, random.below(n + 2), random.below(n + 2), max(n - 1, 0), n, n + 1, MOST})
+    return sorted({0, 1, random.below(n + 2), random.below(n + 2), max(n - 1, 0), n, n + 1, LARGEST_ALLOWANCE})
 
 
 SQUARE = [0, 0, 4, 0, 4, 4, 0, 4]
 TRIANGLE = [0, 0, 4, 0, 0, 4]
-FIRST = [-16000, -16000, -15999, -16000, -16000, -15999]
-LAST = [16000, 16000, 15999, 16000, 16000, 15999]
+LOWER = [-16000, -16000, -15999, -16000, -16000, -15999]
+UPPER = [16000, 16000, 15999, 16000, 16000, 15999]
+MOVED = [10, 0, 14, 0, 14, 4, 10, 4]
+TURNED = SQUARE[2:] + SQUARE[:2]
+STRAIGHT = [0, 0, 2, 0, 4, 0, 0, 3]
+CLOCKWISE = [0, 0, 0, 4, 4, 0]
 STAR = [0, 3, -2, -3, 3, 1, -3, 1, 2, -3]
 LARGEST = [-16000, -16000, 16000, -16000, 16000, 16000, -16000, 16000]
 
 
+# Document 01's own values.
+STATED = [
+    (SQUARE, TRIANGLE, 512, "done 7 A 2 edge 1 256/32 64/32 64/32 2"),
+    (SQUARE, TRIANGLE, 0, "spent 0 0 0 none"),
+    (SQUARE, TRIANGLE, 3, "spent 3 2 1 none"),
+    (SQUARE, TRIANGLE, 4, "spent 4 2 2 A 2 edge 1 256/32 64/32 64/32"),
+    (SQUARE, MOVED, 8, "done 8 A 0 corner 0 100/1 10/1 0/1 10"),
+    (SQUARE, SQUARE, 8, "done 8 A 0 within 0/1 0/1 0/1 0"),
+    (LOWER, UPPER, 6, "done 6 A 0 edge 1 4095872001/2 31999/2 31999/2 45254"),
+    (STAR, SQUARE, 0, "refused A 6 0 3"),
+    (STRAIGHT, SQUARE, 0, "refused A 6 0 2"),
+    (SQUARE, CLOCKWISE, 0, "refused B 6 0 2"),
+]
+
+
 def worked():
     """Document 01's worked fits, and refusals."""
-    shifted = [10, 0, 14, 0, 14, 4, 10, 4]
-    yield SQUARE, TRIANGLE, list(range(10)) + [512, MOST]
+    yield SQUARE, TRIANGLE, list(range(10)) + [512, LARGEST_ALLOWANCE]
     yield TRIANGLE, SQUARE, list(range(10))
-    yield SQUARE, shifted, list(range(11))
+    yield SQUARE, MOVED, list(range(11))
     yield SQUARE, SQUARE, [0, 7, 8]
-    yield SQUARE, SQUARE[2:] + SQUARE[:2], [0, 7, 8]
-    yield FIRST, LAST, list(range(8))
+    yield SQUARE, TURNED, [0, 7, 8]
+    yield LOWER, UPPER, list(range(8))
     yield LARGEST, SQUARE, [0, 4, 8]
     beyond = LARGEST[:4] + [16001, 16000] + LARGEST[6:]
-    lists = [[], [0], [0] * 515, [0] * 514, [0, 0, 4, 0], STAR, [0, 0, 2, 0, 4, 0, 0, 3], [0, 0, 0, 4, 4, 0], beyond,
+    dented = [0, 0, 4, 0, 3, 2, 4, 4, 0, 4]
+    lists = [[], [0], [0] * 515, [0] * 514, [0, 0, 4, 0], STAR, STRAIGHT, CLOCKWISE, dented, beyond,
              [0, 0, 4, 0, 4, 0, 0, 4], [0, 0, 4, 0, 4, 4, 0, 0], [2**31 - 1, -2**31] * 3, SQUARE]
     for a in lists:
         for b in lists:
-            yield a, b, [0, MOST]
+            yield a, b, [0, LARGEST_ALLOWANCE]
 
 
 def generated(random):
@@ -267,17 +283,40 @@ def pairs():
     for a, b in generated(random):
         a = numbers(from_corner(a, random.below(len(a))))
         b = numbers(from_corner(b, random.below(len(b))))
-        if not (refusal(a) or refusal(b)) or random.below(8) == 0:
+        if not (refusal(a) or refusal(b)):
             yield a, b, allowances(random, a, b)
 
 
+def position(a, b):
+    """Where two accepted outlines lie: the same, one in the other, overlapping by a corner, or apart or crossing."""
+    a_within, b_within = [is_within(v, b) for v in a], [is_within(v, a) for v in b]
+    if all(a_within) and all(b_within):
+        return "same"
+    if all(a_within) or all(b_within):
+        return "nested"
+    return "overlapping" if any(a_within) or any(b_within) else "apart"
+
+
+def check_coverage(given):
+    """The pairs have what they are to have, whatever the seed."""
+    accepted = [(corners(a), corners(b)) for a, b, _ in given if not (refusal(a) or refusal(b))]
+    assert len(accepted) >= 2000
+    positions = [position(a, b) for a, b in accepted]
+    assert all(positions.count(one) >= 100 for one in ("same", "nested", "overlapping", "apart"))
+    assert {min(len(a), len(b)) for a, b in accepted} >= {3} and {max(len(a), len(b)) for a, b in accepted} >= {256}
+
+
 def main():
+    for a, b, allowance, text in STATED:
+        assert compare(a, b, allowance) == text, text
+    given = list(pairs())
+    check_coverage(given)
     crate = Path(__file__).resolve().parent.parent / "crates" / "pairs"
-    with open(crate / "stdin", "w") as given, open(crate / "stdout", "w") as answers:
-        for a, b, steps in pairs():
+    with open(crate / "stdin", "w", newline="\n") as numbers_file, open(crate / "stdout", "w", newline="\n") as answers_file:
+        for a, b, steps in given:
             for part in (a, b, steps):
-                print(len(part), *part, file=given)
-            print(*compare_all(a, b, steps), sep="\n", file=answers)
+                print(len(part), *part, file=numbers_file)
+            print(*compare_all(a, b, steps), sep="\n", file=answers_file)
 
 
 if __name__ == "__main__":

@@ -105,7 +105,15 @@ def nearest(v, piece):
     for one in tried[1:]:
         if one.gap < least.gap:
             least = one
+    assert is_nearest(v, least, piece), "the least gap tried is not that of the nearest point"
     return least
+
+
+def is_nearest(v, near, piece):
+    """(v - y)·(c - y) is at most 0 for every corner c, with both differences multiplied by y's lower number."""
+    x, y, lower = near.x, near.y, near.lower
+    to_v = (lower * v[0] - x, lower * v[1] - y)
+    return all(dot(to_v, (lower * c[0] - x, lower * c[1] - y)) <= 0 for c in piece)
 
 
 def half(d):
@@ -143,6 +151,13 @@ def counts(near, piece, touch):
     if (near.x, near.y) == (near.lower * piece[touch][0], near.lower * piece[touch][1]):
         return True
     return lies_on(point, *edge(piece, touch - 1)) or lies_on(point, *edge(piece, touch))
+
+
+def clearance(gap):
+    """The largest whole number whose square is not above the gap."""
+    m = isqrt(gap.upper // gap.lower)
+    assert m * m * gap.lower <= gap.upper < (m + 1) * (m + 1) * gap.lower
+    return m
 
 
 class Comparing:
@@ -199,8 +214,7 @@ class Comparing:
             return f"spent {allowance} {touch[0]} {touch[1]} {shown}"
         answer = (0, 0) if worst is None else worst
         assert answer == self.trial(), "the sweep and the trial differ"
-        gap = self.nearest(*answer).gap
-        return f"done {n} {self.named(answer)} {isqrt(gap.upper // gap.lower)}"
+        return f"done {n} {self.named(answer)} {clearance(self.nearest(*answer).gap)}"
 
 
 def compare_all(a, b, allowances):

@@ -3,6 +3,7 @@
 --     is-comparison                   what the call gives is as document 01 lays down: a refusal for the first fault of A's list, or
 --                                     else of B's, or else a report that obeys the law
 --     comparison-unique               and nothing else is
+--     reported-means                  where it is spent or done both lists are accepted, and the law holds of what is reported
 -- For the code, by what reading the lists gives:
 --     call-asks                       a list is taken: what the steps ask of the outline
 --     call-unread-a, call-unread-b    A's list is refused; A's is taken and B's refused
@@ -12,6 +13,7 @@ use Prim.Native.Nat.{ℕ}
 use mathlib.Core.Path.{_≡_, refl, sym, _∙_}
 use mathlib.Core.Bool.{Bool, true, false}
 use mathlib.Core.List.{List}
+use native.Mathlib.Omega.{arith}
 use borrow.Author.Tests.{ltb-true, ltb-false}
 use lib.Dec.{ltb}
 use lib.IntN.{ℤ}
@@ -32,6 +34,7 @@ use Rattle.outline.proofs.ReadingLaws.{reading-outline, reading-cornersOf}
 use Rattle.outline.proofs.RefusalLaws.{verdict-taken}
 use Rattle.hausdorff.specs.declared.Side.the-variants.{A as SideA, B as SideB}
 use Rattle.hausdorff.specs.declared.Report.{Report}
+use Rattle.hausdorff.specs.declared.Report.the-variants.{Spent as ReportSpent, Done as ReportDone}
 use Rattle.hausdorff.specs.declared.Comparison.{Comparison}
 use Rattle.hausdorff.specs.declared.Comparison.the-variants.{Refused}
 use Rattle.hausdorff.specs.Pair.{Pair, AcceptedPair, both, stepCount}
@@ -47,6 +50,17 @@ law-unique {pair} {allowance} {r} {q} one other = go (ltb allowance (stepCount p
     go : (b : Bool) → ltb allowance (stepCount pair) ≡ b → r ≡ q
     go true e = let below = ltb-true _ _ e in one .spent-below below ∙ sym (other .spent-below below)
     go false e = let enough = ltb-false _ _ e in one .else-done enough ∙ sym (other .else-done enough)
+
+-- a report is no refusal, and it is told by what the call gives
+not-refused : (q : Report) {r : Refusal} → ofReport q ≡ Refused r → ⊥
+not-refused (ReportSpent p) is = let z : _≡_ {A = ℕ} 0 1 = cc in omega arith
+not-refused (ReportDone d) is = let z : _≡_ {A = ℕ} 0 1 = cc in omega arith
+
+same-report : (q r : Report) → ofReport q ≡ ofReport r → q ≡ r
+same-report (ReportSpent p) (ReportSpent o) is = cc
+same-report (ReportSpent p) (ReportDone d) is = cc
+same-report (ReportDone d) (ReportSpent p) is = cc
+same-report (ReportDone d) (ReportDone e) is = cc
 
 both-accepted : (ps qs : List Corner) → Accepted ps → Accepted qs → AcceptedPair (both ps qs)
 both-accepted ps qs ok-a ok-b SideA = ok-a
@@ -89,6 +103,13 @@ module _ (s t : List ℤ) (allowance : ℕ) where
   comparison-unique (refused-b g ok-a first is) = rw (is, accepted s .1 ok-a, first-stands t g .1 first)
   comparison-unique (reported r ok-a ok-b lawful is) =
       rw (is, accepted s .1 ok-a, accepted t .1 ok-b, law-unique lawful (obeys ok-a ok-b))
+
+  -- a result that is spent or done tells that both lists are accepted and that the law holds of its report
+  pub reported-means : (q : Report) → IsComparison s t allowance (ofReport q)
+      → AcceptedList s × (AcceptedList t × Law (both (corners s) (corners t)) allowance q)
+  reported-means q (refused-a f first is) = absurd (not-refused q is)
+  reported-means q (refused-b g ok-a first is) = absurd (not-refused q is)
+  reported-means q (reported r ok-a ok-b lawful is) = (ok-a, (ok-b, rw (same-report q r is) lawful))
 
   pub call-promises : {result : Comparison} → result ≡ comparison s t allowance
       → (result ≡ comparison s t allowance) × IsComparison s t allowance result

@@ -1,16 +1,20 @@
 -- Document 01, demand 3, for every accepted pair and every allowance.
 --     law    what comparing returns obeys the law
-use Prim.Native.Nat.{ℕ}
+use Prim.Native.Nat.{ℕ, _<_, _≤_}
 use mathlib.Core.Path.{_≡_, refl}
 use mathlib.Core.Bool.{Bool, true, false, cond}
-use borrow.Author.Tests.{lt-ltb, le-ltb}
+use native.Mathlib.Omega.{arith}
+use borrow.Author.Tests.{lt-ltb, le-ltb, ltb-true, ltb-false}
 use lib.Dec.{ltb}
 use Rattle.integers.proofs.RootLaws.{floor-root}
 use Rattle.outline.proofs.Acceptance.{accepted-polygon}
 use Rattle.hausdorff.specs.declared.Spent.{Spent}
 use Rattle.hausdorff.specs.declared.Done.{Done}
+use Rattle.hausdorff.specs.declared.CornerGap.{CornerGap}
+use Rattle.hausdorff.specs.declared.Report.{Report}
 use Rattle.hausdorff.specs.declared.Report.the-variants.{Spent as ReportSpent, Done as ReportDone}
 use Rattle.hausdorff.specs.Pair.{Pair, AcceptedPair, Polygons, stepCount}
+use Rattle.hausdorff.specs.Answer.{IsAnswer, TrueFigure}
 use Rattle.hausdorff.specs.Report.{answer, spent, done, report}
 use Rattle.hausdorff.specs.Exhaustive.{exhaustive}
 use Rattle.hausdorff.specs.Law.{OfDone, OfSpent, Law}
@@ -19,45 +23,62 @@ use Rattle.hausdorff.proofs.AnswerLaws.{answer-unique, sweep-answers, s
 use Rattle.hausdorff.proofs.DistanceLaws.{answer-hausdorff}
 use Rattle.hausdorff.proofs.GapLaws.{gap-none-nearer}
 
--- a done report is no spent one, so it tells what is done,
-when-done : (t : Bool) (p : Spent) (d : Done) {e : Done} → cond t (ReportSpent p) (ReportDone d) ≡ ReportDone e → e ≡ d
-when-done true p d is = cc
-when-done false p d is = cc
-
--- and a spent one tells what is spent
-when-spent : (t : Bool) (p : Spent) (d : Done) {q : Spent} → cond t (ReportSpent p) (ReportDone d) ≡ ReportSpent q → q ≡ p
-when-spent true p d is = cc
-when-spent false p d is = cc
-
 module _ (pair : Pair) (accepted : AcceptedPair pair) (allowance : ℕ) where
   polygons : Polygons pair
   polygons s = accepted-polygon (accepted s)
 
-  -- the worst so far after all steps is the answer
-  of-done : OfDone pair (done pair)
-  of-done =
-      let found = sweep-answers pair polygons in let distance = answer-hausdorff pair polygons (answer pair) found in record {
-        as-defined = found;
-        as-searched = answer-unique pair polygons (answer pair) (exhaustive pair) found (search-answers pair polygons);
-        none-nearer = gap-none-nearer pair polygons (answer pair) (found .is-gap);
-        figure = record { reached = (answer pair, found .is-gap, refl); greatest = λ z gap. found .greatest z gap tt };
-        distance = distance;
-        clearance-figure = floor-root (answer pair .gap) (distance .lower-positive);
-      }
+  -- the worst so far after all steps is the answer, and the exhaustive search finds it too
+  found : IsAnswer pair (answer pair)
+  found = sweep-answers pair polygons
+
+  searched : answer pair ≡ exhaustive pair
+  searched = answer-unique pair polygons (answer pair) (exhaustive pair) found (search-answers pair polygons)
+
+  -- its gap is the greatest
+  figure-of : (w : CornerGap) → IsAnswer pair w → TrueFigure pair (w .gap)
+  figure-of w is = record { reached = (w, is .is-gap, refl); greatest = λ z gap. is .greatest z gap tt }
+
+  of-done : stepCount pair ≤ allowance → OfDone pair allowance (done pair)
+  of-done enough = let distance = answer-hausdorff pair polygons (answer pair) found in record {
+    enough = enough;
+    laid-down = refl;
+    as-defined = found;
+    as-searched = searched;
+    none-nearer = gap-none-nearer pair polygons (answer pair) (found .is-gap);
+    figure = figure-of (answer pair) found;
+    distance = distance;
+    clearance-figure = floor-root (answer pair .gap) (distance .lower-positive);
+  }
 
   -- a gap that counts is a corner's
-  of-spent : OfSpent pair allowance (spent pair allowance)
-  of-spent = let counted = worst-counted pair polygons allowance in record {
+  of-spent : allowance < stepCount pair → OfSpent pair allowance (spent pair allowance)
+  of-spent below = let counted = worst-counted pair polygons allowance in record {
+    below = below;
+    laid-down = refl;
     worst-counted = counted;
     none-counted = none-counted pair polygons allowance;
+    figure = figure-of (exhaustive pair) (search-answers pair polygons);
     worst-not-above = λ w g equal figure. figure .greatest w (counted w equal .is-gap);
   }
+
+  -- what is reported by the test whether the allowance is below N
+  abbrev reportIf : Bool → Report
+  reportIf t = cond t (ReportSpent (spent pair allowance)) (ReportDone (done pair))
+
+  -- a done report is no spent one, so it tells that the test fails, and a spent one that it holds
+  when-done : (t : Bool) → ltb allowance (stepCount pair) ≡ t → (d : Done) → reportIf t ≡ ReportDone d → OfDone pair allowance d
+  when-done true holds d is = absurd (let z : _≡_ {A = ℕ} 0 1 = cc in omega arith)
+  when-done false fails d is = let same : d ≡ done pair = cc in rw same (of-done (ltb-false _ _ fails))
+
+  when-spent : (t : Bool) → ltb allowance (stepCount pair) ≡ t → (p : Spent) → reportIf t ≡ ReportSpent p → OfSpent pair allowance p
+  when-spent true holds p is = let same : p ≡ spent pair allowance = cc in rw same (of-spent (ltb-true _ _ holds))
+  when-spent false fails p is = absurd (let z : _≡_ {A = ℕ} 0 1 = cc in omega arith)
 
   pub law : Law pair allowance (report pair allowance)
   unfolding report
   law = let below = ltb allowance (stepCount pair) in record {
     spent-below = λ less. rw (lt-ltb allowance (stepCount pair) less);
     else-done = λ enough. rw (le-ltb allowance (stepCount pair) enough);
-    of-done = λ d is. rw (when-done below (spent pair allowance) (done pair) is) of-done;
-    of-spent = λ p is. rw (when-spent below (spent pair allowance) (done pair) is) of-spent;
+    of-done = when-done below refl;
+    of-spent = when-spent below refl;
   }

@@ -1,6 +1,7 @@
 -- The worst so far of each side is the greatest gap that has been counted, under the rule for equals, or none.
 --     WorstOf            a side's worst is the preferred one of the corners that have a property, or none where none has it
 --     worst-after        a side's worst so far after k steps is that of the corners that count in the steps up to k, and a true gap
+--     support-known      a support corner after k steps is a corner of its outline
 --     IsOutsideCorner    a corner of the side that is not within the other piece
 --     counted-outside    what counts is one
 --     AtNearest          a corner is the support corner where its nearest feature is at the other support corner
@@ -129,6 +130,15 @@ module _ (pair : Pair) (polygons : Polygons pair) where
       go : (t : Bool) → cond t (next (length (pair s)) (e .number)) (support s) < length (pair s)
       go true = next-below (length (pair s)) (e .number) (omega (arith, known s))
       go false = known s
+
+  -- so it is after any number of steps
+  steps-below : (es : List PairEdge) (sweep : Sweep) → Supported pair (sweep .support) → Supported pair (steps pair es sweep .support)
+  unfolding steps step
+  steps-below [] sweep known = known
+  steps-below (e ∷ es) sweep known = steps-below es (step pair e sweep) (passed-below (sweep .support) known e)
+
+  pub support-known : (k : ℕ) (s : Side) → after pair k .support s < length (pair s)
+  support-known k = steps-below (take k (angularOrder pair)) (begin pair) begin-below
 
   -- so they are wherever P is met
   met-map : {P Q : (Side → ℕ) → Type 0} → ((support : Side → ℕ) → Supported pair support → P support → Q support)

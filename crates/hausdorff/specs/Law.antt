@@ -25,31 +25,38 @@ use Rattle.hausdorff.specs.Exhaustive.{exhaustive}
 use Rattle.hausdorff.specs.Counted.{Counted}
 use Rattle.hausdorff.specs.Report.{IsClearance, spent, done}
 
-pub record OfDone (pair : Pair) (d : Done) : Type 0 where
+pub record OfDone (pair : Pair) (allowance : ℕ) (d : Done) : Type 0 where
+  -- the allowance is not below N, and the report is as laid down
+  pub enough : stepCount pair ≤ allowance
+  pub laid-down : d ≡ done pair
   -- the answer, taken from the steps, is the one that "Gap of one corner" defines, and the trial's (the exhaustive search's)
   pub as-defined : IsAnswer pair (d .answer)
   pub as-searched : d .answer ≡ exhaustive pair
   -- no point of the other piece is nearer to the named corner than the point given
   pub none-nearer : (z : Point) → InPiece (pair (other (d .answer .side))) z
       → NotFarther (whole (corner (pair (d .answer .side)) (d .answer .corner))) (d .answer .point) z
-  -- its gap is the true figure, and that is the squared Hausdorff distance, both ways, the greater
+  -- its gap is the true figure, and that is the squared Hausdorff distance, the greater of the two ways
   pub figure : TrueFigure pair (d .answer .gap)
   pub distance : Hausdorff pair (d .answer .gap)
   pub clearance-figure : IsClearance (d .answer .gap) (d .clearance)
 
 pub record OfSpent (pair : Pair) (allowance : ℕ) (p : Spent) : Type 0 where
+  -- the allowance is below N, and the report is as laid down
+  pub below : allowance < stepCount pair
+  pub laid-down : p ≡ spent pair allowance
   -- the worst so far is a corner's true gap, the greatest that counts in the steps made, of equals the first; or none, and then no corner
   -- counts in them
   pub worst-counted : (w : CornerGap) → p .worst ≡ Worst w → Leads pair (λ z. Counted pair (z .side) allowance (z .corner)) w
   pub none-counted : p .worst ≡ None → (s : Side) (i : ℕ) → ¬ Counted pair s allowance i
-  -- and it is never above the true figure
+  -- there is a true figure, the gap that the exhaustive search finds, and the worst so far is never above it
+  pub figure : TrueFigure pair (exhaustive pair .gap)
   pub worst-not-above : (w : CornerGap) (g : Fraction) → p .worst ≡ Worst w → TrueFigure pair g → NotGreater (w .gap) g
 
 pub record Law (pair : Pair) (allowance : ℕ) (result : Report) : Type 0 where
   -- spent exactly below N and else done, each with its report as laid down
   pub spent-below : allowance < stepCount pair → result ≡ ReportSpent (spent pair allowance)
   pub else-done : stepCount pair ≤ allowance → result ≡ ReportDone (done pair)
-  -- the answer when done is the trial's and the one that "Gap of one corner" defines, and its gap is the distance
-  pub of-done : (d : Done) → result ≡ ReportDone d → OfDone pair d
+  -- the answer when done is the trial's and the one that "Gap of one corner" defines
+  pub of-done : (d : Done) → result ≡ ReportDone d → OfDone pair allowance d
   -- the worst so far when spent is the greatest that counts in the steps made, and never above the true figure
   pub of-spent : (p : Spent) → result ≡ ReportSpent p → OfSpent pair allowance p

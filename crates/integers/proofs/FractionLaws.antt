@@ -2,11 +2,10 @@
 --     Means o x y            what the answer o says of x and y
 --     order-iff              `order x y` is Less exactly when x < y, Equal exactly when x ≡ y, Greater exactly when y < x;
 --                            its two halves are order-means and order-unique
---     swap, order-swap       exchanging the two numbers exchanges Less and Greater
 --     then, order-by-parts   the key: two numbers' high parts and then their low parts, of 32 bits, decide as the numbers do
 --     product-parts          the parts of a product, as `product` computes them
 --     low-fits, high-fits    what it computes fits 64 bits
-use mathlib.Core.Path.{_≡_, refl, sym, subst}
+use mathlib.Core.Path.{_≡_, refl, subst}
 use mathlib.Core.Logic.{_↔_}
 use Prim.Native.Nat.{ℕ, _+_, _-_, _*_, _/_, _%_, _^_, _<_}
 use native.Mathlib.Nat.{add-mul, div-add-mod', mod-lt, mul-le-mul-right}
@@ -56,19 +55,6 @@ order-means x y = go (decLt x y) (decLt y x)
 
 pub order-iff : (o : Order) (x y : ℕ) → (order x y ≡ o) ↔ Means o x y
 order-iff o x y = (λ e. subst (λ (p : Order). Means p x y) e (order-means x y), order-unique o x y)
-
-abbrev pub swap : Order → Order
-swap Less = Greater
-swap Equal = Equal
-swap Greater = Less
-
-pub order-swap : (x y : ℕ) → order y x ≡ swap (order x y)
-order-swap x y = go (order x y) (order-means x y)
-  where
-    go : (o : Order) → Means o x y → order y x ≡ swap o
-    go Less h = order-unique Greater y x h
-    go Equal h = order-unique Equal y x (sym h)
-    go Greater h = order-unique Less y x h
 
 -- The second answer counts only where the first is Equal.
 abbrev pub then : Order → Order → Order

@@ -2,7 +2,7 @@
 --     isRightOf       v is strictly right of an edge at a corner
 --     endIsNearest    v, whose foot is not before the end of an edge, is nearest to this end
 --     edgePart        the part of an edge at the support corner that v is nearest to
---     cornerIf        what is found for v whose foot is past the support corner on neither edge
+--     cornerIf        what is found for v whose feet are at the support corner, or off both edges on that side
 --     byParts         what the parts of the two edges tell: of the edge after the support corner, and of the edge before it
 use mathlib.Core.Bool.{Bool, cond, _&&_, _||_}
 use lib.IntN.{pos}
@@ -27,7 +27,7 @@ endIsNearest v isRight isAfter end beyond =
     leZ (dot (end ⇀ v) (end ⇀ beyond)) (pos 0) && (isRight || isRightOf isAfter (end ⇀ beyond) (end ⇀ v))
 
 -- `to` and `run` lead from the support corner to v and to the other end of the edge, which is `end`; `isRight`: v is strictly right of the
--- edge. Start: the foot is not past the support corner; None: v is nearest to none of the edge's parts
+-- edge. Start: the foot is at the support corner, or off the edge on that side; None: v is nearest to none of the edge's parts
 abbrev pub edgePart : Corner → Vector → Vector → Bool → Bool → Corner → Corner → Part
 edgePart v to run isRight isAfter end beyond =
     cond (leZ (dot to run) (pos 0)) Start

@@ -82,7 +82,7 @@ fn end_is_nearest(v: Corner, is_right: bool, is_after: bool, end: Corner, beyond
 // The part of an edge at the support corner that v is nearest to: `to` and `run` lead from this corner to v and to the edge's other end,
 // which is `end`; `beyond` is the next corner the same way round. is_right: v is strictly right of the edge; is_after: it is the edge after
 // the support corner.
-// Start: v's foot is not past the support corner; None: v is nearest to none of the edge's parts.
+// Start: v's foot is at the support corner, or off the edge on that side; None: v is nearest to none of the edge's parts.
 fn edge_part(
     v: Corner,
     to: Vector,
@@ -115,8 +115,8 @@ fn edge_part(
     Part::None
 }
 
-// What is found for v whose foot is past the support corner on neither edge: this corner, if v is strictly right of one of them. Of such
-// points the corner itself alone is not.
+// What is found for v whose feet are at the support corner, or off both edges on that side: this corner, if v is strictly right of one of
+// them. Of such points the corner itself alone is not.
 fn corner_if(right_after: bool, right_before: bool) -> Near
     ensures { λ r. ⌜ r ≡ cornerIf «right_after» «right_before» ⌝ }
 {

@@ -4,7 +4,7 @@
 --     reported-after       what is reported after them is document 01's report
 --     pairOf               the pair of two outlines' values
 --     window-read          corners read from a value, around one of them, are what a step sees there
---     Around               a corner's number and those on either side are below the count
+--     Neighbours           a corner's number and those on either side are below the count
 --     outline-counted, outlines-accepted    what is known of values that hold outlines
 -- The loop that makes the steps:
 --     Running              the invariant: the state is the sweep of two outlines after k of the steps
@@ -35,13 +35,13 @@ use Rattle.hausdorff.specs.Pair.{Pair, AcceptedPair, both, stepCount}
 use Rattle.hausdorff.specs.Worst.{overall}
 use Rattle.hausdorff.specs.Report.{orWithin, spent, done, report}
 use Rattle.hausdorff.specs.Lowest.{LowestLeftmost}
+use Rattle.hausdorff.proofs.WorstLaws.{support-known}
 use Rattle.sweep.specs.declared.State.{State}
 use Rattle.measuring.specs.declared.Window.{Window}
 use Rattle.measuring.specs.Window.{windowAt}
 use Rattle.measuring.specs.Changes.{BoundedWorst}
 use Rattle.sweep.specs.State.{sideState, IsAfter, CanStep, BoundedState, beginning, reported}
 use Rattle.sweep.proofs.BeginLaws.{begins-after}
-use Rattle.sweep.proofs.StepLaws.{support-known}
 
 -- the worse of two is one of them
 overall-bounded : (v w : WorstSoFar) → BoundedWorst v → BoundedWorst w → BoundedWorst (overall v w)
@@ -108,14 +108,14 @@ window-read o {i} {near-before} {farbefore} {before} {after} {near-after} {faraf
       read farafter (after-below farafter-is (after-below near-after-is known)),
     )
 
-pub record Around (n i : ℕ) : Type 0 where
+pub record Neighbours (n i : ℕ) : Type 0 where
   pub known : i < n
   pub before-known : previous n i < n
   pub after-known : next n i < n
 
 -- the corners before and after a corner are corners
-around : {n i : ℕ} → i < n → Around n i
-around known = record { known = known; before-known = before-below refl known; after-known = after-below refl known }
+neighbours : {n i : ℕ} → i < n → Neighbours n i
+neighbours known = record { known = known; before-known = before-below refl known; after-known = after-below refl known }
 
 pub record Running (a b : Outline) (steps k : ℕ) (state : State) : Type 0 where
   pub accepted : AcceptedPair (pairOf a b)
@@ -127,8 +127,8 @@ pub record Running (a b : Outline) (steps k : ℕ) (state : State) : Type 0 wher
   -- what follows from these, for the sums and the reads of the code
   pub fits-a : a .count ≤ most
   pub fits-b : b .count ≤ most
-  pub around-a : Around (a .count) (state .a .support)
-  pub around-b : Around (b .count) (state .b .support)
+  pub neighbours-a : Neighbours (a .count) (state .a .support)
+  pub neighbours-b : Neighbours (b .count) (state .b .support)
 
 -- the count of a value that holds an outline is how many corners it has
 pub outline-counted : {o : Outline} → IsOutline o → length (o .corners) ≡ most → o .count ≡ length (cornersOf o)
@@ -153,8 +153,8 @@ module _ {a b : Outline} {steps : ℕ} where
         is-after = is-after;
         fits-a = omega (arith, accepted A .at-most);
         fits-b = omega (arith, accepted B .at-most);
-        around-a = around (omega (arith, below A, is-after .support A));
-        around-b = around (omega (arith, below B, is-after .support B));
+        neighbours-a = neighbours (omega (arith, below A, is-after .support A));
+        neighbours-b = neighbours (omega (arith, below B, is-after .support B));
       }
 
   -- each side begins where document 01's sweep does

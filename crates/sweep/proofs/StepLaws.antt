@@ -1,18 +1,17 @@
 -- The parts of a step, put together, are a step of document 01's sweep.
 --     Finds                what `measuring::find` answers for a corner
---     support-known        a support corner after k steps is a corner of its outline
 --     after-bounded        the state after k steps is bounded
 --     step-measurable, step-bounded, step-passable    what the parts ask holds where a step can be made
 --     measured-passable    and also once it has measured
 --     step-after           the state that has measured and then passed the next edge is the sweep after one step more
 --     unchanged-after      so is the state that has only passed it, where measuring changes nothing
 use Prim.Native.Nat.{ℕ, suc, _+_, _-_, _<_}
-use mathlib.Core.Path.{_≡_, refl, sym, subst, ap, _∙_}
+use mathlib.Core.Path.{_≡_, refl, subst, ap, _∙_}
 use mathlib.Core.Bool.{Bool, true, false, cond}
-use mathlib.Core.List.{List, [], _∷_, List·Memᴰ, List·Memᴰ·head, Memᴰ·append-right}
+use mathlib.Core.List.{List}
 use mathlib.Mathlib.Data.Bool.Basic.{or-eq-false-eq-eq-false-and-eq-false}
 use native.Mathlib.Omega.{arith}
-use lib.ListN.{length, take, drop, take-append-drop}
+use lib.ListN.{length}
 use Rattle.plane.specs.declared.Corner.{Corner}
 use Rattle.outline.specs.Convex.{Polygon}
 use Rattle.outline.specs.Corners.{corner}
@@ -27,16 +26,15 @@ use Rattle.hausdorff.specs.declared.Side.the-variants.{A, B}
 use Rattle.hausdorff.specs.declared.WorstSoFar.{WorstSoFar}
 use Rattle.hausdorff.specs.declared.WorstSoFar.the-variants.{None as NoWorst, Worst}
 use Rattle.hausdorff.specs.Pair.{Pair, AcceptedPair, Polygons, other, sameSide, stepCount}
-use Rattle.hausdorff.specs.AngularOrder.{PairEdge, angularOrder, own, headOr}
+use Rattle.hausdorff.specs.AngularOrder.{PairEdge}
 use Rattle.hausdorff.specs.Counting.{isCounted}
 use Rattle.hausdorff.specs.CornerGap.{named}
 use Rattle.hausdorff.specs.Worst.{shownNumber, keep}
 use Rattle.hausdorff.specs.Sweep.{measured, passed as passedSupport, step, after}
-use Rattle.hausdorff.proofs.OrderLaws.{polygons-go-round, own-append, own-members}
-use Rattle.hausdorff.proofs.LowestLaws.{begins-lowest}
 use Rattle.hausdorff.proofs.Extreme.{AtSupport}
 use Rattle.hausdorff.proofs.CountingLaws.{counted-iff}
-use Rattle.hausdorff.proofs.SweepLaws.{support-after, after-step}
+use Rattle.hausdorff.proofs.SweepLaws.{after-step}
+use Rattle.hausdorff.proofs.WorstLaws.{support-known}
 use Rattle.sweep.specs.declared.SideState.{SideState}
 use Rattle.sweep.specs.declared.State.{State}
 use Rattle.measuring.specs.declared.Window.{Window}
@@ -54,20 +52,6 @@ use Rattle.sweep.proofs.NextEdge.{isNextB, nextSide, next-edge, next-to
 -- v's nearest feature, if it counts in the outline that w is a window of
 abbrev pub Finds : Window → Window → Near → Type 0
 Finds v w f = (seen : IsWindow w) → featureOf w f ≡ countedFeature (seen .outline) (w .number) (v .corner)
-
--- The head of a list is one of its members, or what stands for none.
-headOr-known : (n z : ℕ) (js : List ℕ) → z < n → ((i : ℕ) → List·Memᴰ i js → i < n) → headOr z js < n
-headOr-known n z [] known all = known
-headOr-known n z (j ∷ js) known all = all j (List·Memᴰ·head refl)
-
--- It is the start of the outline's first edge to come or, if none is, of its first edge.
-pub support-known : (pair : Pair) → Polygons pair → (k : ℕ) (s : Side) → after pair k .support s < length (pair s)
-support-known pair polygons k s =
-    let order = angularOrder pair in
-    rw (support-after pair (polygons-go-round polygons) (take k order) (drop k order) (sym (take-append-drop k order)) s)
-    (headOr-known (length (pair s)) _ (own s (drop k order)) (begins-lowest pair polygons s .known) (λ i there.
-    own-members pair s i .0
-    (rw (← take-append-drop k order, own-append s (take k order) (drop k order)) (Memᴰ·append-right (own s (take k order)) there))))
 
 -- What the sweep keeps is bounded.
 pub after-bounded : (pair : Pair) → AcceptedPair pair → (k : ℕ) {state : State} → IsAfter pair k state → BoundedState state

@@ -129,7 +129,8 @@ impl State {
         }
     }
 
-    // Document 01: a step first measures and then passes the next edge. `a` and `b` are what it sees of the outlines.
+    // Document 01: a step first measures and then passes the next edge. `a` and `b` are the windows at the support corners. From the sweep
+    // after k steps it gives that after k + 1, which is the definition's step (`after-step` in `hausdorff`).
     pub fn step(self, a: Window, b: Window) -> State
         requires { ⌜ CanStep self a b ⌝ }
         ensures { λ r. ⌜ ((can : CanStep self a b) → IsAfter (can .pair) (suc (can .steps)) r) ⌝ }
@@ -180,7 +181,7 @@ fn begin(lowest: usize, count: usize) -> SideState
 }
 
 // The sweep after `steps` steps. No step copies an outline.
-fn run(a: Outline, b: Outline, steps: u32) -> State
+fn make_steps(a: Outline, b: Outline, steps: u32) -> State
     requires { ⌜ IsOutline a ⌝ }
     requires { ⌜ IsOutline b ⌝ }
     requires { ⌜ steps ≤ a .count + b .count ⌝ }
@@ -229,6 +230,6 @@ pub fn compare(a: Outline, b: Outline, allowance: u32) -> Report
     let total = (a.count + b.count) as u32;
     let is_spent = allowance < total;
     let steps = if is_spent { allowance } else { total };
-    let state = run(a, b, steps);
+    let state = make_steps(a, b, steps);
     reporting::report(state, steps, is_spent, a.corners[0])
 }

@@ -35,7 +35,7 @@ fn worse(w: CornerGap, z: CornerGap) -> CornerGap
     }
 }
 
-// The worse of A's and B's; A's where the gaps are equal, or none.
+// The worse of A's and B's, A's where the gaps are equal; none if both are none.
 fn overall(a: WorstSoFar, b: WorstSoFar) -> WorstSoFar
     requires { ⌜ BoundedWorst a ⌝ }
     requires { ⌜ BoundedWorst b ⌝ }

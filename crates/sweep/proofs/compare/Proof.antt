@@ -15,8 +15,8 @@ add-total c = omega (arith, c .before .pre .0 .fits, c .before .pre .1 .fits)
 cast-total : tie.Need-cast-total
 cast-total c = omega (arith, c .before .pre .0 .fits, c .before .pre .1 .fits)
 
-run-requires : tie.Need-run-requires
-run-requires c κs =
+make-steps-requires : tie.Need-make-steps-requires
+make-steps-requires c κs =
     let pre = c .before .before .pre in
     (pre .0, (pre .1, ⊎-elim (λ w. omega (arith, ltb-true)) (λ w. omega arith) (c .if1 .came)))
 
@@ -26,14 +26,14 @@ element-copy-out-report c = omega arith
 report-requires : tie.Need-report-requires
 report-requires c κs =
     let run = c .before in let pre = run .before .before .before .pre in
-    after-bounded _ (outlines-accepted (pre .0) (pre .1)) _ (run .run .ensures)
+    after-bounded _ (outlines-accepted (pre .0) (pre .1)) _ (run .make-steps .ensures)
 
 returns : tie.Need-returns
 returns c =
     let run = c .before .before in let start = run .before .before .before in let pre = start .pre in
     c .report .ensures
     ∙ compare-reports (pre .0) (pre .1) (search (length-mapped, start .good .0)) (search (length-mapped, start .good .1 .0)) _
-    (⊎-elim (λ w. rw (w .0 .taken) (w .1)) (λ w. rw (w .0 .left) (w .1)) (run .before .if1 .came)) (run .run .ensures)
+    (⊎-elim (λ w. rw (w .0 .taken) (w .1)) (λ w. rw (w .0 .left) (w .1)) (run .before .if1 .came)) (run .make-steps .ensures)
 
 pub compare-spec : {M : Type 1} → statement M
-compare-spec = tie.close (tie.spec add-total cast-total run-requires element-copy-out-report report-requires returns)
+compare-spec = tie.close (tie.spec add-total cast-total make-steps-requires element-copy-out-report report-requires returns)

@@ -1,4 +1,4 @@
--- `is_lower` compares the heights by their bits, which tells whether they are equal.
+-- `sweep::is_lower` compares the heights by their bits, which tells whether they are equal.
 use borrow.Author.Needs.{sfits-of}
 use borrow.Author.Tests.{eq-eqb, ne-eqb}
 use mathlib.Core.Path.{_≡_}

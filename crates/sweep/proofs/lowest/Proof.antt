@@ -1,4 +1,4 @@
--- `lowest` passes over the corners and keeps the lowest, of several the leftmost.
+-- `sweep::lowest` passes over the corners and keeps the lowest, of several the leftmost.
 use borrow.Author.Needs.{needs}
 use mathlib.Core.Path.{_≡_, sym, _∙_}
 use mathlib.Core.Logic.{⊎-elim}

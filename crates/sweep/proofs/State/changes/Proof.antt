@@ -1,4 +1,4 @@
--- `State::changes` asks for one side and then for the other.
+-- `sweep::State::changes` asks for one side and then for the other.
 use borrow.Author.Needs.{needs}
 use mathlib.Core.Path.{_∙_}
 use Rattle.measuring.proofs.WindowLaws.{window-range}

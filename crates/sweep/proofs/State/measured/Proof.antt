@@ -1,4 +1,4 @@
--- `State::measured` measures one side and then the other.
+-- `sweep::State::measured` measures one side and then the other.
 use borrow.Author.Needs.{needs}
 use Rattle.measuring.proofs.WindowLaws.{window-range}
 use Rattle.sweep.proofs.State.measured.Statement.{statement}

@@ -1,4 +1,4 @@
--- `reporting::overall` goes by which of the two there are.
+-- `sweep::reporting::overall` goes by which of the two there are.
 use borrow.Author.Needs.{needs}
 use Rattle.sweep.proofs.reporting.overall.Statement.{statement}
 use Rattle.sweep.proofs.reporting.overall.Tie as tie

@@ -1,4 +1,4 @@
--- `reporting::report` builds the report from the worst so far of both sides.
+-- `sweep::reporting::report` builds the report from the worst so far of both sides.
 use borrow.Author.Needs.{needs}
 use Rattle.sweep.proofs.CompareLaws.{answer-positive}
 use Rattle.sweep.proofs.reporting.report.Statement.{statement}

@@ -1,4 +1,4 @@
--- `reporting::worse` goes by the order of the two gaps.
+-- `sweep::reporting::worse` goes by the order of the two gaps.
 use borrow.Author.Needs.{needs}
 use Prim.Native.Nat.{_*_}
 use mathlib.Core.Bool.{Bool, true, false, cond}

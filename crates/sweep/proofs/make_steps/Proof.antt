@@ -1,11 +1,11 @@
--- `sweep::run` begins at the lowest corners and makes the steps, each with what is read at the support corners.
+-- `sweep::make_steps` begins at the lowest corners and makes the steps, each with what is read at the support corners.
 use Prim.Native.Nat.{_-_}
 use native.Mathlib.Omega.{arith}
 use Rattle.outline.proofs.HeldLaws.{length-mapped}
 use Rattle.nearest.proofs.Pass.{before-below, after-below}
 use Rattle.sweep.proofs.CompareLaws.{window-read, Running, run-begins, run-can-step, run-on, run-ends}
-use Rattle.sweep.proofs.run.Statement.{statement}
-use Rattle.sweep.proofs.run.Tie as tie
+use Rattle.sweep.proofs.make_steps.Statement.{statement}
+use Rattle.sweep.proofs.make_steps.Tie as tie
 
 abbrev Inv-loop : tie.InvT-loop
 Inv-loop steps a b n m state₀ k₀ state k = Running a b steps k state
@@ -137,10 +137,10 @@ step-requires c κs =
     let far-b = c .before .before .before .before .before .before .before .before .before in
     let far-a = read-a .before .before .before .before .before .before .before .before .before in
     run-can-step inv (turn .loop-test .taken)
-    (window-read _ (inv .counted-a) (inv .around-a .known) (far-a .before .previous .ensures) (far-a .previous2 .ensures)
+    (window-read _ (inv .counted-a) (inv .neighbours-a .known) (far-a .before .previous .ensures) (far-a .previous2 .ensures)
     (read-a .before .before .before .before .before .before .before .previous3 .ensures)
     (read-a .before .before .before .before .next .ensures) (read-a .before .before .next2 .ensures) (read-a .before .next3 .ensures))
-    (window-read _ (inv .counted-b) (inv .around-b .known) (far-b .before .previous4 .ensures) (far-b .previous5 .ensures)
+    (window-read _ (inv .counted-b) (inv .neighbours-b .known) (far-b .before .previous4 .ensures) (far-b .previous5 .ensures)
     (c .before .before .before .before .before .before .before .previous6 .ensures)
     (c .before .before .before .before .next4 .ensures) (c .before .before .next5 .ensures) (c .before .next6 .ensures))
 
@@ -166,8 +166,8 @@ loop-again c =
 returns : tie.Need-returns Inv-loop μ-loop
 returns c = run-ends (c .before .loop .inv) (omega arith)
 
-pub run-spec : {M : Type 1} → statement M
-run-spec =
+pub make-steps-spec : {M : Type 1} → statement M
+make-steps-spec =
     tie.close
     (tie.spec
     Inv-loop
