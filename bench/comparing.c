@@ -4,7 +4,7 @@
 #include <math.h>
 #include <stdio.h>
 #include <stdlib.h>
-#include <time.h>
+#include "clock.h"
 #include "plain.h"
 
 uint64_t timing_compare(const int32_t *a, size_t n, const int32_t *b, size_t m, uint32_t turns);
@@ -16,17 +16,6 @@ typedef struct {
     size_t n;
     Corner a[MOST], b[MOST];
 } Pair;
-
-static double now(void) {
-    struct timespec t;
-    clock_gettime(CLOCK_MONOTONIC, &t);
-    return t.tv_sec * 1e9 + t.tv_nsec;
-}
-
-static int by_size(const void *a, const void *b) {
-    double x = *(const double *)a, y = *(const double *)b;
-    return (x > y) - (x < y);
-}
 
 static uint64_t greater(uint64_t a, uint64_t b) { return a < b ? b : a; }
 

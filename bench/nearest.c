@@ -5,23 +5,12 @@
 #include <stdint.h>
 #include <stdio.h>
 #include <stdlib.h>
-#include <time.h>
+#include "clock.h"
 
 uint64_t timing_call(const int32_t *s, size_t n, const int32_t *points, size_t m);
 uint64_t timing_core(const int32_t *s, size_t n, const int32_t *points, size_t m);
 
 enum { POINTS = 1000, RUNS = 31 };
-
-static double now(void) {
-    struct timespec t;
-    clock_gettime(CLOCK_MONOTONIC, &t);
-    return t.tv_sec * 1e9 + t.tv_nsec;
-}
-
-static int by_size(const void *a, const void *b) {
-    double x = *(const double *)a, y = *(const double *)b;
-    return (x > y) - (x < y);
-}
 
 /* Nanoseconds for each point. */
 static double median(uint64_t (*f)(const int32_t *, size_t, const int32_t *, size_t), const int32_t *s, size_t n, const int32_t *points) {
