@@ -1,57 +1,27 @@
--- `print::signed` is safe: a number that is not below 0 fits the unsigned type.
+-- `print::signed` is safe: what it appends to no text is a text.
 use borrow.Author.Needs.{needs}
-use mathlib.Core.Bool.{false, false≢true}
-use mathlib.Core.Path.{_≡_, sym}
 use native.Mathlib.Omega.{arith}
-use lib.Dec.{T}
-use lib.IntN.{ℤ, pos, negsuc, natAbs}
-use lib.Signed.{ltZ, nonNeg}
-use mir.Syntax.{w64}
-use mir.Val.{SFits, Fits}
-use mir.ValLaws.{toZ-ofZ}
+use mathlib.Core.List.{[]}
+use mathlib.Core.Path.{_≡_, subst⁻¹, ap, _∙_}
+use Prim.Native.Nat.{ℕ}
+use Rattle.text.specs.declared.output.Text.{Text}
+use Rattle.text.specs.Decimal.{signedDecimal}
+use Rattle.text.specs.Output.{held, IsText, appended}
+use Rattle.text.proofs.OutputLaws.{appended-text, held-text}
 use Rattle.print.proofs.signed.Statement.{statement}
 use Rattle.print.proofs.signed.Tie as tie
 
--- a whole number that is not below 0 can be cast
-natural-fits : (z : ℤ) → SFits w64 z → ltZ z (pos 0) ≡ false → T (nonNeg z) × Fits w64 (natAbs z)
-natural-fits (pos n) f e = (tt, record { fits = omega (arith, f .sfits) })
-natural-fits (negsuc n) f e = absurd (false≢true (sym e))
+empty-requires : tie.Need-empty-requires
+empty-requires c κs = search needs
 
-slice-aggregate-text : tie.Need-slice-aggregate-text
-slice-aggregate-text c = search needs
+signed-requires : tie.Need-signed-requires
+signed-requires c κs = search needs
 
-text-requires : tie.Need-text-requires
-text-requires c κs = search needs
-
-size-requires : tie.Need-size-requires
-size-requires c κs = search needs
-
-natural-requires : tie.Need-natural-requires
-natural-requires c κs = search needs
-
-cast-natural : tie.Need-cast-natural
-cast-natural c =
-    let z = c .before .args .n in
-    let f = c .before .fits .n in rw (toZ-ofZ w64 z f) (natural-fits z f (rw (toZ-ofZ w64 z f) at (c .if1 .left)))
-
-natural-requires-2 : tie.Need-natural-requires-2
-natural-requires-2 c κs = search needs
+held-requires : tie.Need-held-requires
+held-requires c κs = rw (c .signed .ensures, c .before .empty .ensures) (appended-text (held []) _ (held-text [] (omega arith)))
 
 returns : tie.Need-returns
 returns c = search needs
 
-returns-2 : tie.Need-returns-2
-returns-2 c = search needs
-
 pub signed-spec : {M : Type 1} → statement M
-signed-spec =
-    tie.close
-    (tie.spec
-    slice-aggregate-text
-    text-requires
-    size-requires
-    natural-requires
-    cast-natural
-    natural-requires-2
-    returns
-    returns-2)
+signed-spec = tie.close (tie.spec empty-requires signed-requires held-requires returns)

@@ -1,4 +1,4 @@
--- `print::size` meets its contract. Of a number -(k + 1) the code's difference is k, which fits a signed number, and k + 1 is its size.
+-- `text::output::size` meets its contract. Of a number -(k + 1) the code's difference is k, which fits a signed number, and k + 1 is its size.
 use Prim.Native.Nat.{suc, _+_}
 use mathlib.Core.Path.{_≡_, _∙_}
 use native.Mathlib.Omega.{arith}
@@ -8,8 +8,8 @@ use lib.Signed.{mag, _<ℤ_}
 use mir.Syntax.{w64}
 use mir.Val.{SFits, toZ, ofZ}
 use mir.ValLaws.{toZ-ofZ}
-use Rattle.print.proofs.size.Statement.{statement}
-use Rattle.print.proofs.size.Tie as tie
+use Rattle.text.proofs.output.size.Statement.{statement}
+use Rattle.text.proofs.output.size.Tie as tie
 
 -- the difference from -1; `mag` of -(k + 1) is k
 less-one : (z : ℤ) → z <ℤ pos 0 → negsuc 0 -ℤ z ≡ pos (mag z)

@@ -1,0 +1,22 @@
+-- `print::held` is safe: the bytes that a text has are among its places.
+use borrow.Author.Needs.{needs}
+use mathlib.Core.Path.{_≡_, sym}
+use native.Mathlib.Omega.{arith}
+use lib.ListN.{length, length-take}
+use Rattle.print.proofs.held.Statement.{statement}
+use Rattle.print.proofs.held.Tie as tie
+
+array-share-prefix-bytes : tie.Need-array-share-prefix-bytes
+array-share-prefix-bytes c = omega (arith, c .before .pre .fits, c .before .pre .places)
+
+slice-aggregate-text : tie.Need-slice-aggregate-text
+slice-aggregate-text c = rw length-take (omega (arith, c .before .before .pre .fits, c .before .before .pre .places))
+
+text-requires : tie.Need-text-requires
+text-requires c κs = search needs
+
+returns : tie.Need-returns
+returns c = search needs
+
+pub held-spec : {M : Type 1} → statement M
+held-spec = tie.close (tie.spec array-share-prefix-bytes slice-aggregate-text text-requires returns)

@@ -1,0 +1,5 @@
+-- Laws of words, numbers and texts.
+pub mod OutputLaws
+pub mod NumberLaws
+pub mod WordLaws
+pub mod DecimalLaws

