@@ -66,6 +66,9 @@ FEATURES = [
     (text([1, -1, 1, 1, -1, 1, -1, -1], [11, -1, 11, 1, 9, 1, 9, -1]), "gap 100/1, mm 10, from A 2, to corner 2 at 9/1 1/1, steps 8"),
     (text([-2, -2, 4, 0, 4, 4, 0, 4], TRIANGLE), "gap 8/1, mm 2, from A 0, to corner 0 at 0/1 0/1, steps 7"),
     (text([4, 4, 0, 4, -2, -2, 4, 0], TRIANGLE), "gap 256/32, mm 2, from A 0, to edge 1 at 64/32 64/32, steps 7"),
+    # Gaps that are equal as floats: A0's is smaller than A2's by less than a part in 2^53.
+    (text([7102, -10352, 0, -1205, -8645, -8007], [0, -10458, 6452, -461, -6821, 26]),
+     "gap 5463561603296281/156440297, mm 5909, from A 2, to edge 2 at -577491977609/156440297 -748437042790/156440297, steps 6"),
     # A crosses B, no corner within the other.
     (text([-9, -1, 9, -1, 9, 1, -9, 1], [-1, -5, 1, -5, 1, 5, -1, 5]),
      "gap 6400/100, mm 8, from A 0, to edge 3 at -100/100 -100/100, steps 8"),
@@ -126,12 +129,13 @@ REFUSED = [
     (b"3 0 0 -0 00 0 0 0", "refused A 5 0"),
     (text(TRIANGLE, [0, 0, 0, 4, 4, 0, 4, 0]), "refused B 5 2"),
     (text(TRIANGLE, ROUND[:-2] + ROUND[:2]), "refused B 5 255"),
-    # A corner not strictly left of an edge: the star, a straight corner, clockwise, a dent, the lowest corner by number, a triangle walked
-    # twice, the last but one of 256 corners straight.
+    # A corner not strictly left of an edge: the star, a straight corner, clockwise, a dent, the lowest corner by number (corner 4 comes
+    # sooner after the edge), a triangle walked twice, the last but one of 256 corners straight.
     (text(STAR, SQUARE), "refused A 6 0 3"),
     (text(STRAIGHT, SQUARE), "refused A 6 0 2"),
     (text(CLOCKWISE, SQUARE), "refused A 6 0 2"),
     (text([0, 0, 4, 0, 3, 2, 4, 4, 0, 4], SQUARE), "refused A 6 1 3"),
+    (text([0, 0, 4, 0, 4, 4, 1, 1, 0, 4], SQUARE), "refused A 6 2 0"),
     (text([0, 0, 4, 0, 4, 4, 0, 4, 1, 1], SQUARE), "refused A 6 3 0"),
     (text(2 * TRIANGLE, SQUARE), "refused A 6 0 3"),
     (text(ROUND[:-2] + [128, 8382], SQUARE), "refused A 6 253 255"),
@@ -150,8 +154,8 @@ UNREADABLE = [
     b"256 0 0", b"0", b"2 0 0 1 1\n",
     # A number too many, after a good and after a faulty B.
     EXAMPLE + b" 0", text(SQUARE, []) + b" 0",
-    # A negative count.
-    b"-1", b"-3 0 0 4 0 0 4 3 0 0 4 0 0 4", b"-257 x", text(SQUARE) + b" -3 0 0 4 0 0 4",
+    # A negative count, for A and for B; as no corners, or without its minus, it would be read.
+    b"-1 0", b"-3 0 0 4 0 0 4 3 0 0 4 0 0 4", b"-257 x", text(SQUARE) + b" -3 0 0 4 0 0 4", text(SQUARE) + b" -1",
     # Six digits, also for a small number.
     b"000003 0 0 4 0 0 4 3 0 0 4 0 0 4", b"000257", b"100000", b"3 0 0 4 -000000 0 4 3 0 0 4 0 0 4", text(SQUARE) + b" 000257",
     # What stands for no number: lone, doubled and misplaced minus, a plus, a part, a power, letters.
@@ -161,11 +165,12 @@ UNREADABLE = [
     b"257x", b"257-", b"257\t0", text(SQUARE) + b" 257x",
     # A fault of the text behind a faulty A, and behind the last number.
     b"2 0 0 1 1 x", EXAMPLE + b"x", EXAMPLE + b" x", EXAMPLE + b" -",
-    # Other bytes that split: tab, the two after the line end, CR before a line end, NUL, comma, the bytes beside the space.
-    *[EXAMPLE.replace(b" ", byte) for byte in (b"\t", b"\v", b"\f", b"\r\n", b"\0", b",", b"\x1f", b"\x21")],
+    # Other bytes between the numbers: tab, the two after the line end, CR before a line end, NUL, comma, the bytes beside the space, and
+    # above 127.
+    *[EXAMPLE.replace(b" ", byte) for byte in (b"\t", b"\v", b"\f", b"\r\n", b"\0", b",", b"\x1f", b"\x21", b"\x80", b"\xa0", b"\xfe")],
     EXAMPLE + b"\r\n", EXAMPLE + b"\0",
-    # The bytes beside the digits; above 127: a digit with its top bit set, a space without break in two encodings, 254.
-    *[b"3 0 0 4 0 0 4 3 0 0 4 0 0 " + byte for byte in (b"/", b":", b"\xb4", b"\xa0", b"\xc2\xa0", b"\xfe")],
+    # In the place of the last digit: the bytes beside the digits, a digit with its top bit set, a superscript in two encodings.
+    *[b"3 0 0 4 0 0 4 3 0 0 4 0 0 " + byte for byte in (b"/", b":", b"\xb4", b"\xb2", b"\xc2\xb2")],
     # 16,385 bytes: the example filled up after and before, a count above 256. 16,384 bytes without a separator.
     EXAMPLE.ljust(LARGEST_INPUT + 1), EXAMPLE.rjust(LARGEST_INPUT + 1), b"257 ".ljust(LARGEST_INPUT + 1), b"4" * LARGEST_INPUT,
 ]
