@@ -1,0 +1,210 @@
+"""Writes the input of the program `fit_cases`, and what `fit_reference.py` answers: crates/fit_cases/stdin and crates/fit_cases/stdout.
+
+Run without arguments from anywhere; the files do not change. Each case is an input of the program fit, chosen by hand, and beside it stands
+what fit is to print, its lines joined by commas. The input has the cases one after another, each ended by a byte 255, which is in no case;
+the output has what fit prints for each.
+"""
+from pathlib import Path
+
+from fit_reference import LARGEST_INPUT, fit
+from pairs import CLOCKWISE, LARGEST, LOWER, MOVED, SQUARE, STAR, STRAIGHT, TRIANGLE, TURNED, UPPER, numbers, opposite
+
+END = b"\xff"
+
+# Document 01's example, and exactly what it prints.
+EXAMPLE = b"4 0 0 4 0 4 4 0 4 3 0 0 4 0 0 4"
+EXAMPLE_PRINTED = b"""gap 256/32
+mm 2
+from A 2
+to edge 1 at 64/32 64/32
+steps 7
+"""
+SAME_AS_EXAMPLE = "gap 256/32, mm 2, from A 2, to edge 1 at 64/32 64/32, steps 7"
+
+
+def text(*lists):
+    """Each list with its count before it, all split by single spaces."""
+    return b" ".join(b"%d" % n for one in lists for n in [len(one) // 2] + one)
+
+
+# 256 corners on a parabola, counterclockwise.
+PARABOLA = [(i, i * i - 8000) for i in range(-127, 129)]
+ROUND = numbers(PARABOLA)
+RAISED = numbers([(x, y + 100) for x, y in PARABOLA])
+TURNED_OVER = numbers(opposite(PARABOLA))
+
+FEATURES = [
+    # Document 01's example and its worked fits of comparing; the points (6,6) and (12,9) as the worst corner of a triangle.
+    (text(SQUARE, TRIANGLE), SAME_AS_EXAMPLE),
+    (text(SQUARE, MOVED), "gap 100/1, mm 10, from A 0, to corner 0 at 10/1 0/1, steps 8"),
+    (text(SQUARE, SQUARE), "gap 0/1, mm 0, from A 0, to within at 0/1 0/1, steps 8"),
+    (text(SQUARE, TURNED), "gap 0/1, mm 0, from A 0, to within at 0/1 0/1, steps 8"),
+    (text(TURNED, SQUARE), "gap 0/1, mm 0, from A 0, to within at 4/1 0/1, steps 8"),
+    (text(LOWER, UPPER), "gap 4095872001/2, mm 45254, from A 0, to edge 1 at 31999/2 31999/2, steps 6"),
+    (text([0, 0, 9, 0, 6, 6], [0, 0, 9, 0, 0, 3]), "gap 2025/90, mm 4, from A 2, to edge 1 at 405/90 135/90, steps 6"),
+    (text([0, 0, 9, 0, 12, 9], [0, 0, 9, 0, 0, 3]), "gap 90/1, mm 9, from A 2, to corner 1 at 9/1 0/1, steps 6"),
+    # 16,000 is taken.
+    (text(LARGEST, SQUARE), "gap 512000000/1, mm 22627, from A 0, to corner 0 at 0/1 0/1, steps 8"),
+    # The worst corner is B's: over an edge; over a corner, A in B.
+    (text(TRIANGLE, SQUARE), "gap 256/32, mm 2, from B 2, to edge 1 at 64/32 64/32, steps 7"),
+    (text(SQUARE, [-10, -10, 10, -10, 10, 10, -10, 10]), "gap 200/1, mm 14, from B 0, to corner 0 at 0/1 0/1, steps 8"),
+    # The nearest point has negative coordinates: on a corner, on an edge, within.
+    (text(SQUARE, [-9, -20, -5, -20, -5, -16, -9, -16]), "gap 481/1, mm 21, from A 2, to corner 2 at -5/1 -16/1, steps 8"),
+    (text(UPPER, LOWER), "gap 4095872001/2, mm 45254, from A 0, to edge 1 at -31999/2 -31999/2, steps 6"),
+    (text([-9, -9, -5, -9, -7, -5], [-5, -9, -7, -5, -9, -9]), "gap 0/1, mm 0, from A 0, to within at -9/1 -9/1, steps 6"),
+    # Large fractions: over an edge nearly from one end of the range to the other, far from it and close to its end.
+    (text([-16000, -16000, 16000, -16000, -16000, 16000], [-16000, -16000, 15999, 16000, -16000, 16000]),
+     "gap 1048576000000000000/2047936001, mm 22627, from A 1, to edge 0 at -1023984000/2047936001 -16000/2047936001, steps 6"),
+    (text([16000, 16000, -16000, -15990, -15999, -16000, 16000, -16000], [16000, 16000, -15999, -16000, 16000, -16000]),
+     "gap 123896960100/2047936001, mm 7, from A 1, to edge 0 at -32755712336000/2047936001 -32757759984000/2047936001, steps 7"),
+    # A gap below 1, and gaps at and beside the square of a whole number.
+    (text([0, 0, 1, 0, 1, 1, 0, 1], [0, 0, 1, 0, 0, 1]), "gap 1/2, mm 0, from A 2, to edge 1 at 1/2 1/2, steps 7"),
+    (text([0, 0, 4, 0, 4, 4, 0, 5], SQUARE), "gap 1/1, mm 1, from A 3, to corner 3 at 0/1 4/1, steps 8"),
+    (text([0, 0, 3, 0, 5, 2, 0, 4], [0, 0, 3, 0, 0, 4]), "gap 196/25, mm 2, from A 2, to edge 1 at 69/25 8/25, steps 7"),
+    (text([0, 0, 3, 0, 3, 5, 0, 4], [0, 0, 3, 0, 0, 4]), "gap 225/25, mm 3, from A 2, to edge 1 at 15/25 80/25, steps 7"),
+    # Equal gaps: the lower number although it comes later in the turning order; 8/1 before 256/32, and after it.
+    (text([1, -1, 1, 1, -1, 1, -1, -1], [11, -1, 11, 1, 9, 1, 9, -1]), "gap 100/1, mm 10, from A 2, to corner 2 at 9/1 1/1, steps 8"),
+    (text([-2, -2, 4, 0, 4, 4, 0, 4], TRIANGLE), "gap 8/1, mm 2, from A 0, to corner 0 at 0/1 0/1, steps 7"),
+    (text([4, 4, 0, 4, -2, -2, 4, 0], TRIANGLE), "gap 256/32, mm 2, from A 0, to edge 1 at 64/32 64/32, steps 7"),
+    # Gaps that are equal as floats: A0's is smaller than A2's by less than a part in 2^53.
+    (text([7102, -10352, 0, -1205, -8645, -8007], [0, -10458, 6452, -461, -6821, 26]),
+     "gap 5463561603296281/156440297, mm 5909, from A 2, to edge 2 at -577491977609/156440297 -748437042790/156440297, steps 6"),
+    # A crosses B, no corner within the other.
+    (text([-9, -1, 9, -1, 9, 1, -9, 1], [-1, -5, 1, -5, 1, 5, -1, 5]),
+     "gap 6400/100, mm 8, from A 0, to edge 3 at -100/100 -100/100, steps 8"),
+    # 256 corners: one above the other, the second turned over, and against three.
+    (text(ROUND, RAISED), "gap 10000/1, mm 100, from A 127, to corner 127 at 0/1 -7900/1, steps 512"),
+    (text(ROUND, TURNED_OVER), "gap 163840/1, mm 404, from A 255, to corner 127 at 0/1 8000/1, steps 512"),
+    (text(TRIANGLE, ROUND), "gap 70240784/1, mm 8380, from B 255, to corner 2 at 0/1 4/1, steps 259"),
+]
+
+LAYOUTS = [
+    # A line end after the last; a line for each number; separators before, after and several between; line ends alone.
+    (EXAMPLE + b"\n", SAME_AS_EXAMPLE),
+    (EXAMPLE.replace(b" ", b"\n"), SAME_AS_EXAMPLE),
+    (b"\n  " + EXAMPLE.replace(b" ", b" \n\n  ") + b"  \n ", SAME_AS_EXAMPLE),
+    (b"4\n0 0\n4 0\n4 4\n0 4\n\n3\n0 0\n4 0\n0 4\n", SAME_AS_EXAMPLE),
+    # Leading zeros; a minus before zero, which prints 0.
+    (b"00004 0 00 0004 000 04 004 00000 00004 03 0 0 4 0 0 00004", SAME_AS_EXAMPLE),
+    (b"4 -0 0 4 -00 4 4 -00000 4 3 0 -0 4 0 0 4", SAME_AS_EXAMPLE),
+    (b"3 -0 -0 4 0 0 4 3 4 0 0 4 -0 -0", "gap 0/1, mm 0, from A 0, to within at 0/1 0/1, steps 6"),
+    (b"3 -0004 00 -0 -004 004 0 3 -4 0 4 0 0 4", "gap 1024/64, mm 4, from A 1, to edge 0 at 0/64 0/64, steps 6"),
+    # 16,384 bytes: filled up after the last number, before the first, and between.
+    (EXAMPLE.ljust(LARGEST_INPUT), SAME_AS_EXAMPLE),
+    (EXAMPLE.rjust(LARGEST_INPUT, b"\n"), SAME_AS_EXAMPLE),
+    (EXAMPLE.replace(b"4 3", b"4".ljust(LARGEST_INPUT - len(EXAMPLE) + 2) + b"3"), SAME_AS_EXAMPLE),
+]
+
+REFUSED = [
+    # Fewer than 3 corners: no place.
+    (b"0 0", "refused A 2"),
+    (b"-0 -0", "refused A 2"),
+    (b"00000 3 0 0 4 0 0 4", "refused A 2"),
+    (b"1 99999 0 0", "refused A 2"),
+    (b"2 0 0 1 1 3 0 0 4 0 0 4", "refused A 2"),
+    (text(SQUARE, []), "refused B 2"),
+    (text(SQUARE) + b" -0\n", "refused B 2"),
+    (text(SQUARE, [1, 1, 1, 1]), "refused B 2"),
+    # A count above 256 ends the reading: nothing after it is judged. 256 corners are taken, above.
+    (b"257", "refused A 3"),
+    (b"257 x", "refused A 3"),
+    (b" \n257\n\xfe\x00", "refused A 3"),
+    (b"00257", "refused A 3"),
+    (b"99999", "refused A 3"),
+    ((b"257 " + EXAMPLE).ljust(LARGEST_INPUT, b"-"), "refused A 3"),
+    (text(SQUARE) + b" 257", "refused B 3"),
+    (text(SQUARE) + b" 99999 --", "refused B 3"),
+    # B's count above 256, and A faulty: A is checked first.
+    (b"2 0 0 1 1 300", "refused A 2"),
+    (text(STAR) + b" 257 x", "refused A 6 0 3"),
+    # A coordinate out of range: its corner. Before equal corners and before one that is not left.
+    (text([16001, 0, 4, 0, 0, 4], TRIANGLE), "refused A 4 0"),
+    (text([0, 0, 4, -16001, 0, 16001], TRIANGLE), "refused A 4 1"),
+    (b"4 0 0 0 0 4 4 -99999 99999 3 0 0 4 0 0 4", "refused A 4 3"),
+    (text(TRIANGLE, [0, 0, 0, 16001, 4, 0]), "refused B 4 1"),
+    (text(ROUND[:-2] + [128, 16001], TRIANGLE), "refused A 4 255"),
+    # A corner equal to the following one, the last against corner 0.
+    (text([0, 0, 4, 0, 4, 0, 0, 4], TRIANGLE), "refused A 5 1"),
+    (text([0, 0, 4, 0, 4, 4, 0, 0], TRIANGLE), "refused A 5 3"),
+    (b"3 0 0 -0 00 0 0 0", "refused A 5 0"),
+    (text(TRIANGLE, [0, 0, 0, 4, 4, 0, 4, 0]), "refused B 5 2"),
+    (text(TRIANGLE, ROUND[:-2] + ROUND[:2]), "refused B 5 255"),
+    # A corner not strictly left of an edge: the star, a straight corner, clockwise, a dent, the lowest corner by number (corner 4 comes
+    # sooner after the edge), a triangle walked twice, the last but one of 256 corners straight.
+    (text(STAR, SQUARE), "refused A 6 0 3"),
+    (text(STRAIGHT, SQUARE), "refused A 6 0 2"),
+    (text(CLOCKWISE, SQUARE), "refused A 6 0 2"),
+    (text([0, 0, 4, 0, 3, 2, 4, 4, 0, 4], SQUARE), "refused A 6 1 3"),
+    (text([0, 0, 4, 0, 4, 4, 1, 1, 0, 4], SQUARE), "refused A 6 2 0"),
+    (text([0, 0, 4, 0, 4, 4, 0, 4, 1, 1], SQUARE), "refused A 6 3 0"),
+    (text(2 * TRIANGLE, SQUARE), "refused A 6 0 3"),
+    (text(ROUND[:-2] + [128, 8382], SQUARE), "refused A 6 253 255"),
+    (text(SQUARE, STAR), "refused B 6 0 3"),
+    (text(SQUARE, CLOCKWISE), "refused B 6 0 2"),
+    # A and B faulty: A's refusal, also where its number is greater.
+    (text(STAR, [0, 0]), "refused A 6 0 3"),
+    (text([0, 0, 0, 0, 4, 4], [16001, 0, 4, 0, 0, 4]), "refused A 5 0"),
+]
+
+UNREADABLE = [
+    # Nothing, and separators alone.
+    b"", b" ", b"\n\n \n",
+    # A missing number: every beginning of the example; A's numbers for 256 corners; B's count after a faulty A.
+    *[b" ".join(EXAMPLE.split()[:n]) for n in range(1, 16)],
+    b"256 0 0", b"0", b"2 0 0 1 1\n",
+    # A number too many, after a good and after a faulty B.
+    EXAMPLE + b" 0", text(SQUARE, []) + b" 0",
+    # A negative count, for A and for B; as no corners, or without its minus, it would be read.
+    b"-1 0", b"-3 0 0 4 0 0 4 3 0 0 4 0 0 4", b"-257 x", text(SQUARE) + b" -3 0 0 4 0 0 4", text(SQUARE) + b" -1",
+    # Six digits, also for a small number.
+    b"000003 0 0 4 0 0 4 3 0 0 4 0 0 4", b"000257", b"100000", b"3 0 0 4 -000000 0 4 3 0 0 4 0 0 4", text(SQUARE) + b" 000257",
+    # What stands for no number: lone, doubled and misplaced minus, a plus, a part, a power, letters.
+    b"- 0 0", b"3 0 0 - 4 0 0 4", b"3 0 0 --1 0 0 4 3 0 0 4 0 0 4", b"3 0 0 1- 0 0 4 3 0 0 4 0 0 4", b"3 0 0 1-2 0 4 3 0 0 4 0 0 4",
+    b"+3 0 0 4 0 0 4 3 0 0 4 0 0 4", b"3 0 0 4.0 0 0 4 3 0 0 4 0 0 4", b"3 0 0 4e0 0 0 4 3 0 0 4 0 0 4", b"four 0 0", b"0x3 0 0",
+    # A count above 256 that is no number.
+    b"257x", b"257-", b"257\t0", text(SQUARE) + b" 257x",
+    # A fault of the text behind a faulty A, and behind the last number.
+    b"2 0 0 1 1 x", EXAMPLE + b"x", EXAMPLE + b" x", EXAMPLE + b" -",
+    # Other bytes between the numbers: tab, the two after the line end, CR before a line end, NUL, comma, the bytes beside the space, and
+    # above 127.
+    *[EXAMPLE.replace(b" ", byte) for byte in (b"\t", b"\v", b"\f", b"\r\n", b"\0", b",", b"\x1f", b"\x21", b"\x80", b"\xa0", b"\xfe")],
+    EXAMPLE + b"\r\n", EXAMPLE + b"\0",
+    # In the place of the last digit: the bytes beside the digits, a digit with its top bit set, a superscript in two encodings.
+    *[b"3 0 0 4 0 0 4 3 0 0 4 0 0 " + byte for byte in (b"/", b":", b"\xb4", b"\xb2", b"\xc2\xb2")],
+    # 16,385 bytes: the example filled up after and before, a count above 256. 16,384 bytes without a separator.
+    EXAMPLE.ljust(LARGEST_INPUT + 1), EXAMPLE.rjust(LARGEST_INPUT + 1), b"257 ".ljust(LARGEST_INPUT + 1), b"4" * LARGEST_INPUT,
+]
+
+CASES = FEATURES + LAYOUTS + REFUSED + [(case, "unreadable") for case in UNREADABLE]
+
+
+def kind(printed):
+    """A printed text by its words alone: the side and the feature of a gap, the side and the number of a refusal."""
+    words = printed.split()
+    return (words[5], words[8]) if words[0] == "gap" else tuple(words[:3])
+
+
+def check_coverage():
+    """The cases have what they are to have."""
+    assert fit(EXAMPLE) == EXAMPLE_PRINTED
+    inputs = [case for case, _ in CASES]
+    assert len(set(inputs)) == len(inputs) and not any(END in case for case in inputs)
+    assert {len(case) for case in inputs} >= {0, LARGEST_INPUT, LARGEST_INPUT + 1}
+    gaps = {("A", "corner"), ("A", "edge"), ("A", "within"), ("B", "corner"), ("B", "edge")}
+    refusals = {("refused", side, number) for side in "AB" for number in "23456"}
+    assert {kind(said) for _, said in CASES} == gaps | refusals | {("unreadable",)}
+
+
+def main():
+    check_coverage()
+    printed = [fit(case) for case, _ in CASES]
+    for (case, said), lines in zip(CASES, printed):
+        assert lines.decode() == said.replace(", ", "\n") + "\n", (case[:200], said, lines)
+    crate = Path(__file__).resolve().parent.parent / "crates" / "fit_cases"
+    crate.mkdir(exist_ok=True)
+    (crate / "stdin").write_bytes(b"".join(case + END for case, _ in CASES))
+    (crate / "stdout").write_bytes(b"".join(printed))
+
+
+if __name__ == "__main__":
+    main()

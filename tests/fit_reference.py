@@ -1,0 +1,70 @@
+"""The program fit, from document 01 alone: `fit(data)` takes the bytes of standard input and gives the bytes that it must write.
+
+Written apart from the proved code, for comparison with it. Comparing is `reference.py`'s, every corner against every edge.
+"""
+import re
+
+from reference import compare
+
+LARGEST_INPUT = 16 * 1024
+LARGEST_COUNT = 256
+ALLOWANCE = 512
+NUMBER = re.compile(rb"-?[0-9]{1,5}")
+
+
+class Unreadable(Exception):
+    pass
+
+
+def next_number(words):
+    """The value of the next word; a word that is no number, or none left, is unreadable."""
+    word = next(words, b"")
+    if not NUMBER.fullmatch(word):
+        raise Unreadable
+    return int(word)
+
+
+def next_outline(words):
+    """The numbers of the next outline, or None for a count above 256, after which nothing is read."""
+    count = next_number(words)
+    if count < 0:
+        raise Unreadable
+    if count > LARGEST_COUNT:
+        return None
+    return [next_number(words) for _ in range(2 * count)]
+
+
+def read(data):
+    """The numbers of A and of B; None in the place of one with a count above 256, and for B too if that is A."""
+    if len(data) > LARGEST_INPUT:
+        raise Unreadable
+    words = iter([word for word in data.replace(b"\n", b" ").split(b" ") if word])
+    a = next_outline(words)
+    if a is None:
+        return None, None
+    b = next_outline(words)
+    if b is not None and next(words, None) is not None:
+        raise Unreadable
+    return a, b
+
+
+def too_many():
+    """A list that comparing refuses for its number of corners."""
+    return [0, 0] * (LARGEST_COUNT + 1)
+
+
+def printed(text):
+    """What `compare` says, as the program prints it: a refusal as it is, and five lines when done."""
+    if text.startswith("refused"):
+        return text + "\n"
+    done, steps, side, corner, *feature, gap, x, y, clearance = text.split()
+    assert done == "done"
+    return f"gap {gap}\nmm {clearance}\nfrom {side} {corner}\nto {' '.join(feature)} at {x} {y}\nsteps {steps}\n"
+
+
+def fit(data):
+    try:
+        a, b = (too_many() if numbers is None else numbers for numbers in read(data))
+    except Unreadable:
+        return b"unreadable\n"
+    return printed(compare(a, b, ALLOWANCE)).encode()
