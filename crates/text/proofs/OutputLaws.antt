@@ -1,6 +1,6 @@
 -- Laws of a text that is made piece by piece.
---     appended-append    two lists are appended as one
---     appended-snoc      a list and a byte behind it
+--     appended-append, joined    two lists are appended as one
+--     appended-nil, appended-snoc    no list; a list and a byte behind it
 --     appended-text, held-text    these are texts
 --     held-appended      what is appended to a text that is held, and fits, is held behind it
 use Prim.Native.Nat.{ℕ, suc, _+_, _-_, _≤_, _<_}
@@ -20,6 +20,14 @@ pub appended-append : (t : Text) (r s : List ℕ) → appended (appended t r) s 
 unfolding appended
 appended-append t [] s = refl
 appended-append t (b ∷ r) s = appended-append (pushed t b) r s
+
+-- the same of texts that are known to come about so
+pub joined : (t : Text) (r s : List ℕ) {u v : Text} → u ≡ appended t r → v ≡ appended u s → v ≡ appended t (r ++ s)
+joined t r s first second = rw (second, first) (appended-append t r s)
+
+pub appended-nil : (t : Text) → t ≡ appended t []
+unfolding appended
+appended-nil t = refl
 
 pub appended-snoc : (t : Text) (s : List ℕ) (b : ℕ) → pushed (appended t s) b ≡ appended t (s ++ (b ∷ []))
 unfolding appended

@@ -1,0 +1,3 @@
+-- Laws of the lines of a comparison.
+pub mod LineLaws
+pub mod LengthLaws

@@ -1,0 +1,44 @@
+-- `fit_lines::coordinate` puts a coordinate's two numbers behind a space.
+use borrow.Author.Needs.{needs}
+use mathlib.Core.Path.{sym}
+use mir.Facts.{toZ-ofZ}
+use Rattle.text.specs.Decimal.{signedDecimal}
+use Rattle.text.proofs.OutputLaws.{joined}
+use Rattle.fit_lines.specs.Lines.{coordinateText}
+use Rattle.fit_lines.proofs.LineLaws.{by-case}
+use Rattle.fit_lines.proofs.coordinate.Statement.{statement}
+use Rattle.fit_lines.proofs.coordinate.Tie as tie
+
+slice-aggregate-bytes : tie.Need-slice-aggregate-bytes
+slice-aggregate-bytes c = search needs
+
+bytes-requires : tie.Need-bytes-requires
+bytes-requires c κs = search needs
+
+signed-requires : tie.Need-signed-requires
+signed-requires c κs = search needs
+
+slice-aggregate-bytes-2 : tie.Need-slice-aggregate-bytes-2
+slice-aggregate-bytes-2 c = search needs
+
+bytes-requires-2 : tie.Need-bytes-requires-2
+bytes-requires-2 c κs = search needs
+
+natural-requires : tie.Need-natural-requires
+natural-requires c κs = search needs
+
+returns : tie.Need-returns
+unfolding coordinateText
+returns c = let start = c .before .before .before .before .before .before in joined _ _ _ (joined _ _ _ (joined _ _ _ (c .before .before .before .before .bytes .ensures) (by-case signedDecimal _ (sym (toZ-ofZ (start .fits .upper))) (c .before .before .before .signed .ensures))) (c .before .bytes2 .ensures)) (c .natural .ensures)
+
+pub coordinate-spec : {M : Type 1} → statement M
+coordinate-spec =
+    tie.close
+    (tie.spec
+    slice-aggregate-bytes
+    bytes-requires
+    signed-requires
+    slice-aggregate-bytes-2
+    bytes-requires-2
+    natural-requires
+    returns)

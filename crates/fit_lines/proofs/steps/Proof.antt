@@ -1,0 +1,36 @@
+-- `fit_lines::steps` puts the number of steps into its line.
+use borrow.Author.Needs.{needs}
+use Rattle.text.proofs.OutputLaws.{joined}
+use Rattle.fit_lines.specs.Lines.{stepsText}
+use Rattle.fit_lines.proofs.steps.Statement.{statement}
+use Rattle.fit_lines.proofs.steps.Tie as tie
+
+slice-aggregate-bytes : tie.Need-slice-aggregate-bytes
+slice-aggregate-bytes c = search needs
+
+bytes-requires : tie.Need-bytes-requires
+bytes-requires c κs = search needs
+
+natural-requires : tie.Need-natural-requires
+natural-requires c κs = search needs
+
+slice-aggregate-bytes-2 : tie.Need-slice-aggregate-bytes-2
+slice-aggregate-bytes-2 c = search needs
+
+bytes-requires-2 : tie.Need-bytes-requires-2
+bytes-requires-2 c κs = search needs
+
+returns : tie.Need-returns
+unfolding stepsText
+returns c = joined _ _ _ (joined _ _ _ (c .before .before .before .bytes .ensures) (c .before .before .natural .ensures)) (c .bytes2 .ensures)
+
+pub steps-spec : {M : Type 1} → statement M
+steps-spec =
+    tie.close
+    (tie.spec
+    slice-aggregate-bytes
+    bytes-requires
+    natural-requires
+    slice-aggregate-bytes-2
+    bytes-requires-2
+    returns)

@@ -1,0 +1,58 @@
+-- `fit_lines::to` puts the feature and the point into their line.
+use borrow.Author.Needs.{needs, sfits-of}
+use mathlib.Core.Path.{sym}
+use lib.IntN.{ℤ}
+use mir.Facts.{toZ-ofZ}
+use mir.Syntax.{w64}
+use mir.Val.{SFits}
+use Rattle.text.proofs.OutputLaws.{joined}
+use Rattle.fit_lines.specs.Lines.{toText, coordinateText}
+use Rattle.fit_lines.proofs.LineLaws.{by-case}
+use Rattle.fit_lines.proofs.to.Statement.{statement}
+use Rattle.fit_lines.proofs.to.Tie as tie
+
+slice-aggregate-bytes : tie.Need-slice-aggregate-bytes
+slice-aggregate-bytes c = search needs
+
+bytes-requires : tie.Need-bytes-requires
+bytes-requires c κs = search needs
+
+feature-requires : tie.Need-feature-requires
+feature-requires c κs = search needs
+
+slice-aggregate-bytes-2 : tie.Need-slice-aggregate-bytes-2
+slice-aggregate-bytes-2 c = search needs
+
+bytes-requires-2 : tie.Need-bytes-requires-2
+bytes-requires-2 c κs = search needs
+
+coordinate-requires : tie.Need-coordinate-requires
+coordinate-requires c κs = search needs
+
+coordinate-requires-2 : tie.Need-coordinate-requires-2
+coordinate-requires-2 c κs = search needs
+
+slice-aggregate-bytes-3 : tie.Need-slice-aggregate-bytes-3
+slice-aggregate-bytes-3 c = search needs
+
+bytes-requires-3 : tie.Need-bytes-requires-3
+bytes-requires-3 c κs = search needs
+
+returns : tie.Need-returns
+unfolding toText
+returns c = let point = c .before .before .before .before .before .before .before .before .before .before .before .before .args .found .point in let x-fits : SFits w64 (point .x) = search sfits-of in let y-fits : SFits w64 (point .y) = search sfits-of in joined _ _ _ (joined _ _ _ (joined _ _ _ (joined _ _ _ (joined _ _ _ (c .before .before .before .before .before .before .before .before .before .bytes .ensures) (c .before .before .before .before .before .before .before .before .feature .ensures)) (c .before .before .before .before .before .before .bytes2 .ensures)) (by-case (λ (x : ℤ). coordinateText x (point .lower)) _ (sym (toZ-ofZ x-fits)) (c .before .before .before .before .coordinate .ensures))) (by-case (λ (y : ℤ). coordinateText y (point .lower)) _ (sym (toZ-ofZ y-fits)) (c .before .before .coordinate2 .ensures))) (c .bytes3 .ensures)
+
+pub to-spec : {M : Type 1} → statement M
+to-spec =
+    tie.close
+    (tie.spec
+    slice-aggregate-bytes
+    bytes-requires
+    feature-requires
+    slice-aggregate-bytes-2
+    bytes-requires-2
+    coordinate-requires
+    coordinate-requires-2
+    slice-aggregate-bytes-3
+    bytes-requires-3
+    returns)

@@ -1,0 +1,2 @@
+-- The lines of a comparison.
+pub mod Lines

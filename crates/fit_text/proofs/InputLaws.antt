@@ -1,0 +1,162 @@
+-- Laws of reading outlines from a text.
+--     numbers-next, numbers-stop    so many numbers, by what the first word gives
+--     Read                          the first i of n numbers are read to a list: what is given is decided by the words that are left
+--     none-read, one-read, all-read, not-read    how reading begins, goes on and ends
+--     outline-stop, outline-negative, outline-many, outline-counted    an outline, by what the first word gives
+--     given-case, has-room          what the code finds, by its case
+--     with-b-end, with-b-more       what is given for B, by whether words are left
+use Prim.Native.Nat.{ℕ, zero, suc, _+_, _-_, _*_, _≤_, _<_}
+use mathlib.Core.Bool.{Bool, true, false, false≢true}
+use mathlib.Core.Path.{_≡_, refl, sym, ap, _∙_}
+use mathlib.Core.List.{List, [], _∷_, _++_, append-assoc, append-nil}
+use native.Mathlib.Numerals.{add-one}
+use native.Mathlib.Omega.{arith}
+use borrow.Author.Tests.{ltb-true, ltb-false}
+use lib.Dec.{T}
+use lib.IntN.{ℤ, pos, negsuc, natAbs}
+use lib.ListN.{length, take, drop, set, length-set}
+use lib.Seq.{take-suc-set}
+use lib.Signed.{ltZ, nonNeg}
+use Rattle.text.specs.declared.input.Parsed.{Parsed}
+use Rattle.text.specs.declared.input.Parsed.the-variants.{Number as IsNumber, Invalid}
+use Rattle.text.specs.First.{FirstNumber, Number, None, followed, firstNumber}
+use Rattle.text.specs.Number.{number}
+use Rattle.text.specs.Words.{words, isEmpty}
+use Rattle.outline.specs.Corners.{most}
+use Rattle.hausdorff.specs.Call.{comparison}
+use Rattle.fit_text.specs.declared.reading.Given.{Given as Found}
+use Rattle.fit_text.specs.declared.reading.Given.the-variants.{Numbers as FoundNumbers}
+use Rattle.fit_text.specs.declared.reading.Outcome.the-variants.{Compared, Unreadable as OutcomeUnreadable}
+use Rattle.fit_text.specs.Input.{Given, Numbers, TooMany, Unreadable, before, numbers, counted, outline, allowance, withB, asGiven, countOf}
+
+-- a word that gives a number, with the words after it
+is-number : (ws : List (List ℕ)) (p : Parsed) {z : ℤ} {rest : List (List ℕ)}
+    → followed ws p ≡ Number z rest → (p ≡ IsNumber z) × (ws ≡ rest)
+is-number ws (IsNumber y) same = (cc, cc)
+is-number ws Invalid same = let no : _≡_ {A = ℕ} 0 1 = cc in absurd (omega arith)
+
+is-invalid : (ws : List (List ℕ)) (p : Parsed) → followed ws p ≡ None → p ≡ Invalid
+is-invalid ws (IsNumber y) same = let no : _≡_ {A = ℕ} 0 1 = cc in absurd (omega arith)
+is-invalid ws Invalid same = refl
+
+numbers-next : (n : ℕ) (ws : List (List ℕ)) {z : ℤ} {rest : List (List ℕ)}
+    → firstNumber ws ≡ Number z rest → numbers (suc n) ws ≡ before (IsNumber z) (numbers n rest)
+unfolding numbers
+numbers-next n [] first = let no : _≡_ {A = ℕ} 0 1 = cc in absurd (omega arith)
+numbers-next n (w ∷ ws) first = let (here, after) = is-number ws (number w) first in rw (here, after)
+
+numbers-stop : (n : ℕ) (ws : List (List ℕ)) → firstNumber ws ≡ None → numbers (suc n) ws ≡ Unreadable
+unfolding numbers
+numbers-stop n [] first = refl
+numbers-stop n (w ∷ ws) first = rw (is-invalid ws (number w) first)
+
+-- numbers that are read already, before what is given
+abbrev after : List ℤ → Given → Given
+after p (Numbers s ws) = Numbers (p ++ s) ws
+after p TooMany = TooMany
+after p Unreadable = Unreadable
+
+after-before : (p : List ℤ) (z : ℤ) (g : Given) → after p (before (IsNumber z) g) ≡ after (p ++ (z ∷ [])) g
+after-before p z (Numbers s ws) = rw append-assoc
+after-before p z TooMany = refl
+after-before p z Unreadable = refl
+
+after-nil : (g : Given) → g ≡ after [] g
+after-nil (Numbers s ws) = refl
+after-nil TooMany = refl
+after-nil Unreadable = refl
+
+pub record Read (s : List ℕ) (from n : ℕ) (out₀ out : List ℤ) (next i : ℕ) : Type 0 where
+  pub most : i ≤ n
+  pub long : length out ≡ length out₀
+  pub room : n ≤ length out₀
+  pub gives : numbers n (words (drop from s)) ≡ after (take i out) (numbers (n - i) (words (drop next s)))
+
+pub none-read : (s : List ℕ) (from n : ℕ) (out : List ℤ) → n ≤ length out → Read s from n out out from 0
+none-read s from n out room = record {
+  most = omega arith;
+  long = refl;
+  room = room;
+  gives = let all : n - 0 ≡ n = omega arith in rw all (after-nil (numbers n (words (drop from s))));
+}
+
+module _ {s : List ℕ} {from n : ℕ} {out₀ out : List ℤ} {next i : ℕ} (r : Read s from n out₀ out next i) where
+  left : i < n → n - i ≡ suc (n - (i + 1))
+  left below = omega arith
+
+  pub one-read : i < n → {z : ℤ} (past : ℕ) → firstNumber (words (drop next s)) ≡ Number z (words (drop past s))
+      → Read s from n out₀ (set out i z) past (i + 1)
+  one-read below {z} past first = record {
+    most = omega arith;
+    long = length-set out i z ∙ r .long;
+    room = r .room;
+    gives =
+        let here : i < length out = omega (arith, r .long, r .room) in
+        let taken : take (i + 1) (set out i z) ≡ take i out ++ (z ∷ []) = rw add-one (take-suc-set out i z here) in
+        rw (r .gives, left below, numbers-next (n - (i + 1)) (words (drop next s)) first, taken)
+        (after-before (take i out) z (numbers (n - (i + 1)) (words (drop past s))));
+  }
+
+  pub not-read : i < n → firstNumber (words (drop next s)) ≡ None → Unreadable ≡ numbers n (words (drop from s))
+  not-read below first = rw (r .gives, left below, numbers-stop (n - (i + 1)) (words (drop next s)) first)
+
+  pub all-read : n ≤ i → Numbers (take n out) (words (drop next s)) ≡ numbers n (words (drop from s))
+  unfolding numbers
+  all-read past =
+      let same : i ≡ n = omega (arith, r .most) in
+      let none : n - n ≡ 0 = omega arith in
+      rw (r .gives, same, none, append-nil)
+
+pub outline-stop : (ws : List (List ℕ)) → firstNumber ws ≡ None → Unreadable ≡ outline ws
+unfolding outline
+outline-stop [] first = refl
+outline-stop (w ∷ ws) first = rw (is-invalid ws (number w) first)
+
+-- the first word is a corner count
+outline-first : (ws : List (List ℕ)) {z : ℤ} {rest : List (List ℕ)} → firstNumber ws ≡ Number z rest → outline ws ≡ counted rest (IsNumber z)
+unfolding outline
+outline-first [] first = let no : _≡_ {A = ℕ} 0 1 = cc in absurd (omega arith)
+outline-first (w ∷ ws) first = let (here, after) = is-number ws (number w) first in rw (here, after)
+
+module _ (ws : List (List ℕ)) where
+  pub outline-negative : (z : ℤ) {rest : List (List ℕ)} → firstNumber ws ≡ Number z rest → ltZ z (pos 0) ≡ true → Unreadable ≡ outline ws
+  outline-negative (pos n) first below = absurd (omega (arith, ltb-true n 0 below))
+  outline-negative (negsuc n) first below = rw (outline-first ws first)
+
+  pub outline-many : (z : ℤ) {rest : List (List ℕ)} → firstNumber ws ≡ Number z rest → ltZ (pos most) z ≡ true → TooMany ≡ outline ws
+  outline-many (pos n) first above = rw (outline-first ws first, above)
+  outline-many (negsuc n) first above = absurd (false≢true above)
+
+  pub outline-counted : (z : ℤ) {rest : List (List ℕ)} → firstNumber ws ≡ Number z rest
+      → ltZ z (pos 0) ≡ false → ltZ (pos most) z ≡ false → numbers (2 * natAbs z) rest ≡ outline ws
+  outline-counted (pos n) first not-below not-above = rw (outline-first ws first, not-above)
+  outline-counted (negsuc n) first not-below not-above = absurd (false≢true (sym not-below))
+
+-- a count that is taken
+pub count-bound : (z : ℤ) → ltZ z (pos 0) ≡ false → ltZ (pos most) z ≡ false → T (nonNeg z) × (natAbs z ≤ most)
+count-bound (pos n) not-below not-above = (tt, ltb-false most n not-above)
+count-bound (negsuc n) not-below not-above = absurd (false≢true (sym not-below))
+
+-- what the code finds, by its case
+pub given-case : (s : List ℕ) (out : List ℤ) (ws : List (List ℕ)) {r found : Found} → asGiven s out r ≡ outline ws → r ≡ found
+    → outline ws ≡ asGiven s out found
+given-case s out ws given case = sym given ∙ ap (asGiven s out) case
+
+pub has-room : {n past m : ℕ} {r : Found} → r ≡ FoundNumbers n past → countOf r ≤ m → n ≤ m
+has-room case room = rw case at room
+
+-- B's numbers are read: words behind them cannot be read
+module _ (a : List ℤ) (ws : List (List ℕ)) {t : List ℤ} {rest : List (List ℕ)} (given : outline ws ≡ Numbers t rest) where
+  pub with-b-end : isEmpty rest ≡ true → Compared (comparison a t allowance) ≡ withB a (outline ws)
+  with-b-end none = rw given (by-rest rest none)
+    where
+      by-rest : (us : List (List ℕ)) → isEmpty us ≡ true → Compared (comparison a t allowance) ≡ withB a (Numbers t us)
+      by-rest [] none = refl
+      by-rest (u ∷ us) none = absurd (false≢true none)
+
+  pub with-b-more : isEmpty rest ≡ false → OutcomeUnreadable ≡ withB a (outline ws)
+  with-b-more some = rw given (by-rest rest some)
+    where
+      by-rest : (us : List (List ℕ)) → isEmpty us ≡ false → OutcomeUnreadable ≡ withB a (Numbers t us)
+      by-rest [] some = absurd (false≢true (sym some))
+      by-rest (u ∷ us) some = refl

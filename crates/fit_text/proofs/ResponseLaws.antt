@@ -1,0 +1,80 @@
+-- Laws of what the program writes.
+--     response-laid-down    every response is one of document 01's texts: 512 steps are always enough
+--     response-fits         every response fits a text
+use Prim.Native.Nat.{ℕ, _≤_}
+use mathlib.Core.Path.{_≡_, refl}
+use mathlib.Core.Bool.{Bool, true, false, cond}
+use mathlib.Core.List.{List, [], _∷_}
+use native.Mathlib.Omega.{arith}
+use lib.Dec.{ltb}
+use lib.IntN.{ℤ}
+use lib.ListN.{length}
+use Rattle.text.specs.Output.{room}
+use Rattle.text.specs.Words.{words}
+use Rattle.outline.specs.declared.Check.{Check}
+use Rattle.outline.specs.declared.Check.the-variants.{Passed, Failed}
+use Rattle.outline.specs.declared.Fault.the-variants.{TooManyCorners}
+use Rattle.outline.specs.Reading.{check}
+use Rattle.hausdorff.specs.declared.Spent.{Spent as SpentReport}
+use Rattle.hausdorff.specs.declared.Report.the-variants.{Done as ReportDone}
+use Rattle.hausdorff.specs.declared.Comparison.{Comparison}
+use Rattle.hausdorff.specs.declared.Comparison.the-variants.{Refused, Spent, Done}
+use Rattle.hausdorff.specs.Call.{comparisonFor, comparison, IsComparison, refused-a, refused-b, reported}
+use Rattle.hausdorff.proofs.CallLaws.{is-comparison}
+use Rattle.fit_lines.specs.Lines.{comparisonText}
+use Rattle.fit_lines.proofs.LengthLaws.{refusal-fits, done-fits}
+use Rattle.fit_text.specs.declared.reading.Outcome.{Outcome}
+use Rattle.fit_text.specs.declared.reading.Outcome.the-variants.{Compared, Unreadable}
+use Rattle.fit_text.specs.Input.{Given, Numbers, TooMany, Unreadable as GivenUnreadable, outline, allowance, tooManyOfB, withB, withA, outcome}
+use Rattle.fit_text.specs.Response.{outcomeText, mostBytes, judged, response, LaidDown, unreadable, refused, done}
+
+-- an accepted pair has at most 512 edges, so the law of comparing says that it is done
+never-spent : (s t : List ℤ) (p : SpentReport) → ¬ (comparison s t allowance ≡ Spent p)
+never-spent s t p is = by-case (is-comparison s t allowance)
+  where
+    by-case : IsComparison s t allowance (comparison s t allowance) → ⊥
+    by-case (refused-a f first given) = let no : _≡_ {A = ℕ} 0 1 = cc in omega arith
+    by-case (refused-b f accepted first given) = let no : _≡_ {A = ℕ} 0 1 = cc in omega arith
+    by-case (reported r a b law given) =
+        let done : r ≡ ReportDone _ = law .else-done (omega (arith, a .1 .at-most, b .1 .at-most)) in
+        let no : _≡_ {A = ℕ} 0 1 = cc in omega arith
+
+-- what a comparison that is not spent writes
+comparison-laid-down : (c : Comparison) → ((p : SpentReport) → ¬ (c ≡ Spent p)) → LaidDown (comparisonText c)
+comparison-laid-down (Refused r) not-spent = refused r refl
+comparison-laid-down (Spent p) not-spent = absurd (not-spent p refl)
+comparison-laid-down (Done d) not-spent = done d refl
+
+many-laid-down : (s : List ℤ) → LaidDown (comparisonText (tooManyOfB s))
+many-laid-down s = by-check (check s)
+  where
+    by-check : (c : Check) → LaidDown (comparisonText (comparisonFor s [] allowance c (Failed TooManyCorners)))
+    by-check Passed = refused _ refl
+    by-check (Failed f) = refused _ refl
+
+b-laid-down : (s : List ℤ) (g : Given) → LaidDown (outcomeText (withB s g))
+b-laid-down s (Numbers t []) = comparison-laid-down (comparison s t allowance) (never-spent s t)
+b-laid-down s (Numbers t (w ∷ ws)) = unreadable refl
+b-laid-down s TooMany = many-laid-down s
+b-laid-down s GivenUnreadable = unreadable refl
+
+a-laid-down : (g : Given) → LaidDown (outcomeText (withA g))
+a-laid-down (Numbers s ws) = b-laid-down s (outline ws)
+a-laid-down TooMany = refused _ refl
+a-laid-down GivenUnreadable = unreadable refl
+
+pub response-laid-down : (s : List ℕ) → LaidDown (response s)
+response-laid-down s = by-length (ltb mostBytes (length s))
+  where
+    by-length : (t : Bool) → LaidDown (outcomeText (cond t Unreadable (outcome s)))
+    by-length true = unreadable refl
+    by-length false = a-laid-down (outline (words s))
+
+outcome-fits : (o : Outcome) → length (outcomeText o) ≤ room
+outcome-fits (Compared (Refused r)) = refusal-fits r
+outcome-fits (Compared (Spent s)) = omega arith
+outcome-fits (Compared (Done d)) = done-fits d
+outcome-fits Unreadable = omega arith
+
+pub response-fits : (s : List ℕ) → length (response s) ≤ room
+response-fits s = outcome-fits (judged s)

@@ -1,0 +1,71 @@
+-- `fit_text::reading::read` goes by what the text gives for A.
+use borrow.Author.Needs.{needs}
+use mathlib.Core.Path.{ap}
+use native.Mathlib.Omega.{arith}
+use lib.ListN.{length-take}
+use Rattle.outline.specs.declared.Refusal.{Refusal}
+use Rattle.hausdorff.specs.declared.Comparison.the-variants.{Refused}
+use Rattle.fit_text.specs.declared.reading.Outcome.the-variants.{Compared}
+use Rattle.fit_text.proofs.InputLaws.{given-case, has-room}
+use Rattle.fit_text.proofs.reading.read.Statement.{statement}
+use Rattle.fit_text.proofs.reading.read.Tie as tie
+
+no-numbers-requires : tie.Need-no-numbers-requires
+no-numbers-requires c κs = search needs
+
+slice-aggregate-outline : tie.Need-slice-aggregate-outline
+slice-aggregate-outline c = search needs
+
+outline-requires : tie.Need-outline-requires
+outline-requires c κs = search needs
+
+enum-told : tie.Need-enum-told
+enum-told c = search needs
+
+enum-told-2 : tie.Need-enum-told-2
+enum-told-2 c = search needs
+
+refusal-requires : tie.Need-refusal-requires
+refusal-requires c κs = search needs
+
+enum-known-n : tie.Need-enum-known-n
+enum-known-n c = search needs
+
+array-share-prefix-a : tie.Need-array-share-prefix-a
+array-share-prefix-a c =
+    omega (arith, has-room (c .before .n .given .1) (c .before .before .before .before .outline .ensures .0), c .before .before .before .before .outline .kept .1 .1 .0)
+
+slice-aggregate-with-b : tie.Need-slice-aggregate-with-b
+slice-aggregate-with-b c =
+    rw length-take (omega (arith, has-room (c .before .before .n .given .1) (c .before .before .before .before .before .outline .ensures .0), c .before .before .before .before .before .outline .kept .1 .1 .0))
+
+with-b-requires : tie.Need-with-b-requires
+with-b-requires c κs = search needs
+
+returns : tie.Need-returns
+returns c = rw (given-case _ _ _ (c .before .before .before .outline .ensures .1) (c .enum-told .given .1))
+
+returns-2 : tie.Need-returns-2
+returns-2 c =
+    rw (given-case _ _ _ (c .before .before .before .before .outline .ensures .1) (c .before .enum-told2 .given .1)) (ap (λ (r : Refusal). Compared (Refused r)) (c .refusal .ensures))
+
+returns-3 : tie.Need-returns-3
+returns-3 c = rw (given-case _ _ _ (c .before .before .before .before .before .before .outline .ensures .1) (c .before .before .before .n .given .1)) (c .with-b .ensures)
+
+pub read-spec : {M : Type 1} → statement M
+read-spec =
+    tie.close
+    (tie.spec
+    no-numbers-requires
+    slice-aggregate-outline
+    outline-requires
+    enum-told
+    enum-told-2
+    refusal-requires
+    enum-known-n
+    array-share-prefix-a
+    slice-aggregate-with-b
+    with-b-requires
+    returns
+    returns-2
+    returns-3)

@@ -1,0 +1,31 @@
+-- `fit_text::unreadable` puts the word and a line end into an empty text.
+use borrow.Author.Needs.{needs}
+use mathlib.Core.List.{List, []}
+use mathlib.Core.Path.{_≡_}
+use native.Mathlib.Omega.{arith}
+use Prim.Native.Nat.{ℕ, _≤_}
+use lib.ListN.{length}
+use Rattle.text.specs.declared.output.Text.{Text}
+use Rattle.text.specs.Ascii.{ascii}
+use Rattle.text.specs.Output.{held, appended}
+use Rattle.text.proofs.OutputLaws.{held-appended}
+use Rattle.fit_text.proofs.unreadable.Statement.{statement}
+use Rattle.fit_text.proofs.unreadable.Tie as tie
+
+written : {t r : Text} → t ≡ held [] → r ≡ appended t (ascii "unreadable\n") → r ≡ held (ascii "unreadable\n")
+written empty is = rw (is, empty) (held-appended [] (ascii "unreadable\n") (omega arith))
+
+empty-requires : tie.Need-empty-requires
+empty-requires c κs = search needs
+
+slice-aggregate-bytes : tie.Need-slice-aggregate-bytes
+slice-aggregate-bytes c = search needs
+
+bytes-requires : tie.Need-bytes-requires
+bytes-requires c κs = search needs
+
+returns : tie.Need-returns
+returns c = written (c .before .before .empty .ensures) (c .bytes .ensures)
+
+pub unreadable-spec : {M : Type 1} → statement M
+unreadable-spec = tie.close (tie.spec empty-requires slice-aggregate-bytes bytes-requires returns)

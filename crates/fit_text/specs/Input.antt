@@ -1,0 +1,92 @@
+-- Document 01: what the fit program reads.
+--     numbers       so many numbers, one a word
+--     outline       a corner count and the numbers of an outline. A count above 256 ends the reading
+--     withB, withA  what is given for B, where A's numbers are read, and for A. Nothing may stand behind the numbers of B
+--     tooManyOfB    B's count is above 256, which counts as 3 for B. A is checked before
+--     outcome       what a text gives: a comparison in at most 512 steps, or it cannot be read
+-- For the code:
+--     asGiven       what it finds in a text and writes to a list, as a `Given`
+--     countOf       how many numbers it finds
+use Prim.Native.Nat.{ℕ, zero, suc, _*_}
+use mathlib.Core.Bool.{cond}
+use mathlib.Core.List.{List, [], _∷_}
+use lib.Dec.{ltb}
+use lib.IntN.{ℤ, pos, negsuc}
+use lib.ListN.{take, drop}
+use Rattle.text.specs.declared.input.Parsed.{Parsed}
+use Rattle.text.specs.declared.input.Parsed.the-variants.{Number, Invalid}
+use Rattle.text.specs.Number.{number}
+use Rattle.text.specs.Words.{words}
+use Rattle.outline.specs.declared.Check.the-variants.{Failed}
+use Rattle.outline.specs.declared.Fault.the-variants.{TooManyCorners}
+use Rattle.outline.specs.declared.RefusedSide.the-variants.{A}
+use Rattle.outline.specs.Corners.{most}
+use Rattle.outline.specs.Reading.{check}
+use Rattle.outline.specs.Refusal.{refusal}
+use Rattle.hausdorff.specs.declared.Comparison.{Comparison}
+use Rattle.hausdorff.specs.declared.Comparison.the-variants.{Refused}
+use Rattle.hausdorff.specs.Call.{comparisonFor, comparison}
+use Rattle.fit_text.specs.declared.reading.Outcome.{Outcome}
+use Rattle.fit_text.specs.declared.reading.Outcome.the-variants.{Compared, Unreadable as OutcomeUnreadable}
+use Rattle.fit_text.specs.declared.reading.Given.{Given as Found}
+use Rattle.fit_text.specs.declared.reading.Given.the-variants.{Numbers as FoundNumbers, TooMany as FoundTooMany, Unreadable as FoundUnreadable}
+
+-- what a text gives for one outline: its numbers and the words after them, or a count above 256, or it cannot be read
+pub data Given : Type 0 where
+  Numbers : List ℤ → List (List ℕ) → Given
+  TooMany : Given
+  Unreadable : Given
+
+-- a number before what is given
+abbrev pub before : Parsed → Given → Given
+before (Number z) (Numbers s ws) = Numbers (z ∷ s) ws
+before (Number z) TooMany = TooMany
+before (Number z) Unreadable = Unreadable
+before Invalid g = Unreadable
+
+-- a missing number cannot be read
+unfoldable pub numbers : ℕ → List (List ℕ) → Given
+numbers zero ws = Numbers [] ws
+numbers (suc n) [] = Unreadable
+numbers (suc n) (w ∷ ws) = before (number w) (numbers n ws)
+
+-- nor can a negative count
+abbrev pub counted : List (List ℕ) → Parsed → Given
+counted ws (Number (pos n)) = let read = numbers (2 * n) ws in cond (ltb most n) TooMany read
+counted ws (Number (negsuc n)) = Unreadable
+counted ws Invalid = Unreadable
+
+unfoldable pub outline : List (List ℕ) → Given
+outline [] = Unreadable
+outline (w ∷ ws) = counted ws (number w)
+
+-- how many steps are allowed
+abbrev pub allowance : ℕ
+allowance = 512
+
+abbrev pub tooManyOfB : List ℤ → Comparison
+tooManyOfB s = comparisonFor s [] allowance (check s) (Failed TooManyCorners)
+
+abbrev pub withB : List ℤ → Given → Outcome
+withB s (Numbers t []) = Compared (comparison s t allowance)
+withB s (Numbers t (w ∷ ws)) = OutcomeUnreadable
+withB s TooMany = Compared (tooManyOfB s)
+withB s Unreadable = OutcomeUnreadable
+
+abbrev pub withA : Given → Outcome
+withA (Numbers s ws) = withB s (outline ws)
+withA TooMany = Compared (Refused (refusal A TooManyCorners))
+withA Unreadable = OutcomeUnreadable
+
+abbrev pub outcome : List ℕ → Outcome
+outcome s = withA (outline (words s))
+
+abbrev pub asGiven : List ℕ → List ℤ → Found → Given
+asGiven s out (FoundNumbers n after) = Numbers (take n out) (words (drop after s))
+asGiven s out FoundTooMany = TooMany
+asGiven s out FoundUnreadable = Unreadable
+
+abbrev pub countOf : Found → ℕ
+countOf (FoundNumbers n after) = n
+countOf FoundTooMany = 0
+countOf FoundUnreadable = 0

@@ -1,0 +1,3 @@
+-- Document 01: the fit program, from the bytes of its input to the bytes that it writes.
+pub mod Input
+pub mod Response

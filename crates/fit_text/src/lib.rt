@@ -1,0 +1,35 @@
+// The fit program on lists of bytes: from the bytes of its input to the bytes that it writes.
+pub mod reading;
+
+use reading::Outcome;
+use text::output::Text;
+ghost use mathlib.Core.Path.{_≡_};
+ghost use Prim.Native.Nat.{_≤_};
+ghost use lib.ListN.{length};
+ghost use Rattle.text.specs.Ascii.{ascii};
+ghost use Rattle.text.specs.Output.{held, room};
+ghost use Rattle.fit_text.specs.Response.{response};
+
+// The most bytes that are read: 16 KiB.
+const MOST_BYTES: usize = 16384;
+
+fn unreadable() -> Text
+    ensures { λ r. ⌜ r ≡ held (ascii "unreadable\n") ⌝ }
+{
+    Text::empty().bytes(b"unreadable\n")
+}
+
+// What the program writes for an input: `unreadable`, a refusal in one line, or the five lines of a comparison.
+// Any bytes may be handed to it. What it writes fits a text, so that nothing is left out.
+pub fn respond(input: &[u8]) -> Text
+    ensures bytes { λ r. ⌜ r ≡ held (response (now (input .entry))) ⌝ }
+    ensures whole { λ _. ⌜ length (response (now (input .entry))) ≤ room ⌝ }
+{
+    if MOST_BYTES < input.len() {
+        return unreadable();
+    }
+    match reading::read(input) {
+        Outcome::Compared(comparison) => fit_lines::comparison(Text::empty(), comparison),
+        Outcome::Unreadable => unreadable(),
+    }
+}

@@ -1,0 +1,121 @@
+// From the bytes of the input to what comparing its two outlines gives.
+use hausdorff::Comparison;
+use outline::Check;
+use outline::Fault;
+use outline::RefusedSide;
+use outline::checks;
+use outline::refusals;
+use text::input;
+use text::input::Next;
+ghost use mathlib.Core.Path.{_≡_};
+ghost use Prim.Native.Nat.{_*_, _≤_};
+ghost use lib.IntN.{ℤ};
+ghost use lib.ListN.{length, drop};
+ghost use Rattle.text.specs.Words.{words};
+ghost use Rattle.outline.specs.Corners.{most};
+ghost use Rattle.fit_text.specs.Input.{numbers, outline, withB, outcome, asGiven, countOf, tooManyOfB};
+
+// How many steps are allowed: every comparison is done with so many.
+const ALLOWANCE: u32 = 512;
+
+// How many numbers an outline has at the most.
+const MOST_NUMBERS: usize = 512;
+
+// What a text gives for an outline: how many numbers, and the place after them; a count above 256; or what cannot be read.
+pub enum Given {
+    Numbers(usize, usize),
+    TooMany,
+    Unreadable,
+}
+
+// What a text gives: a comparison, or it cannot be read.
+pub enum Outcome {
+    Compared(Comparison),
+    Unreadable,
+}
+
+// Reads n numbers to a list.
+fn numbers(s: &[u8], from: usize, n: usize, out: &mut [i32]) -> Given
+    requires { ⌜ n ≤ length (now out) ⌝ }
+    ensures room { λ r. ⌜ countOf r ≤ length (now (out .entry)) ⌝ }
+    ensures given { λ r. ⌜ asGiven (now (s .entry)) (now (out .exit)) r ≡ numbers n (words (drop from (now (s .entry)))) ⌝ }
+{
+    let mut next = from;
+    let mut i = 0;
+    while i < n {
+        let Next::Number(value, after) = input::next_number(s, next) else {
+            return Given::Unreadable;
+        };
+        out[i] = value;
+        next = after;
+        i += 1;
+    }
+    Given::Numbers(n, next)
+}
+
+// Reads a corner count and the numbers of an outline to a list.
+fn outline(s: &[u8], from: usize, out: &mut [i32]) -> Given
+    requires { ⌜ 2 * most ≤ length (now out) ⌝ }
+    ensures room { λ r. ⌜ countOf r ≤ length (now (out .entry)) ⌝ }
+    ensures given { λ r. ⌜ asGiven (now (s .entry)) (now (out .exit)) r ≡ outline (words (drop from (now (s .entry)))) ⌝ }
+{
+    let Next::Number(count, after) = input::next_number(s, from) else {
+        return Given::Unreadable;
+    };
+    if count < 0 {
+        return Given::Unreadable;
+    }
+    if 256 < count {
+        return Given::TooMany;
+    }
+    numbers(s, after, 2 * (count as usize), out)
+}
+
+// B's corner count is above 256: A is checked first.
+fn too_many_of_b(a: &[i32]) -> Comparison
+    ensures { λ r. ⌜ r ≡ tooManyOfB (now (a .entry)) ⌝ }
+{
+    if let Check::Failed(fault) = checks::check(a) {
+        return Comparison::Refused(refusals::refusal(RefusedSide::A, fault));
+    }
+    Comparison::Refused(refusals::refusal(RefusedSide::B, Fault::TooManyCorners))
+}
+
+// The length as a contract spares its users the list of all the zeros.
+fn no_numbers() -> [i32; MOST_NUMBERS]
+    ensures { λ r. ⌜ 512 ≡ length r ⌝ }
+{
+    [0; MOST_NUMBERS]
+}
+
+// What the text from a place on gives where the numbers of A are read: B's count and numbers, and nothing behind them.
+fn with_b(a: &[i32], s: &[u8], from: usize) -> Outcome
+    ensures { λ r. ⌜ r ≡ withB (now (a .entry)) (outline (words (drop from (now (s .entry))))) ⌝ }
+{
+    let mut b = no_numbers();
+    match outline(s, from, &mut b) {
+        Given::Unreadable => Outcome::Unreadable,
+        Given::TooMany => Outcome::Compared(too_many_of_b(a)),
+        Given::Numbers(n, next) => {
+            if !input::is_at_end(s, next) {
+                return Outcome::Unreadable;
+            }
+            Outcome::Compared(calls::compare(a, &b[..n], ALLOWANCE))
+        }
+    }
+}
+
+// What a text gives.
+pub fn read(s: &[u8]) -> Outcome
+    ensures { λ r. ⌜ r ≡ outcome (now (s .entry)) ⌝ }
+{
+    let mut a = no_numbers();
+    match outline(s, 0, &mut a) {
+        Given::Unreadable => Outcome::Unreadable,
+        Given::TooMany => Outcome::Compared(Comparison::Refused(refusals::refusal(
+            RefusedSide::A,
+            Fault::TooManyCorners,
+        ))),
+        Given::Numbers(n, next) => with_b(&a[..n], s, next),
+    }
+}
