@@ -4,3 +4,4 @@ pub mod NumberLaws
 pub mod WordLaws
 pub mod DecimalLaws
 pub mod RoundTrip
+pub mod Examples
