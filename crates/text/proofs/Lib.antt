@@ -3,3 +3,5 @@ pub mod OutputLaws
 pub mod NumberLaws
 pub mod WordLaws
 pub mod DecimalLaws
+pub mod RoundTrip
+pub mod Examples

@@ -1,19 +1,24 @@
 -- Laws of the words of a text.
 --     run-more, run-stops, run-past    a run from a place on, by the byte that stands there
 --     run-≤              a run is no longer than the text
---     words-separator, words-word, words-last    how the words of a text come about: a separator before a text gives no word, and a word
---                        before a separator, or at the end, is one of them
---     next-word, no-word    the first word from a place on, as the code finds it, and where there is none
-use Prim.Native.Nat.{ℕ, suc, _+_, _-_, _≤_, _<_}
+--     NoSeparator, IsWord    no byte of a text is a separator; a word is such a text that is not empty
+--     words-none, words-separator, words-word, words-last    the rules of `words`: the empty text has none, a separator before a text gives
+--                        none, and a word before a separator, or at the end, is one
+--     words-are-words    every one of them is a word
+--     next-word, no-word, past-words    the first word from a place on, as the code finds it, and where there is none
+--     at-end             no word stands from a place on: the separators that stand there reach the end
+use Prim.Native.Nat.{ℕ, suc, _+_, _≤_, _<_}
 use mathlib.Core.Bool.{Bool, true, false, cond, not}
-use mathlib.Core.Path.{_≡_, refl, sym, ap, _∙_}
+use mathlib.Core.Path.{_≡_, refl, ap, _∙_}
 use mathlib.Core.List.{List, [], _∷_, _++_, append-assoc, append-nil}
+use mathlib.Core.List.{List·Memᴰ, List·Memᴰ·head, List·Memᴰ·tail, List·Memᴰ·not-nil, List·Memᴰ·eq-of-singleton, List·Memᴰ·append-cases}
+use mathlib.Core.Logic.{⊎-elim}
 use native.Mathlib.Numerals.{add-one}
 use native.Mathlib.Omega.{arith}
 use borrow.Author.Tests.{leb-true, leb-false, ltb-true, ltb-false}
 use lib.Dec.{leb, ltb}
 use lib.ListN.{length, getD, take, drop, length-drop, drop-of-length-le}
-use lib.Seq.{drop-cons, drop-drop, take-append-seam}
+use lib.Seq.{drop-cons, drop-drop, take-append-seam, drop-append-seam}
 use Rattle.text.specs.Words.{isSeparator, isOf, run, ended, wordsFrom, words, isEmpty}
 
 module _ (separators : Bool) (s : List ℕ) (i : ℕ) where
@@ -37,6 +42,10 @@ run-≤ separators (b ∷ s) = by-test (isOf separators b) (run-≤ separators s
     by-test : (t : Bool) → run separators s ≤ length s → cond t (suc (run separators s)) 0 ≤ suc (length s)
     by-test true shorter = omega arith
     by-test false shorter = omega arith
+
+pub words-none : words [] ≡ []
+unfolding wordsFrom
+words-none = refl
 
 pub words-separator : (b : ℕ) (s : List ℕ) → isSeparator b ≡ true → words (b ∷ s) ≡ words s
 unfolding wordsFrom
@@ -66,6 +75,61 @@ first-word (b ∷ s) some = by-test (isSeparator b) refl some
         ≡ take (cond (not t) (suc (run false s)) 0) (b ∷ s) ∷ words (drop (cond (not t) (suc (run false s)) 0) (b ∷ s))
     by-test true splits none = absurd (omega arith)
     by-test false other begun = word-goes-on b [] s
+
+abbrev pub NoSeparator : List ℕ → Type 0
+NoSeparator w = (b : ℕ) → List·Memᴰ b w → isSeparator b ≡ false
+
+pub record IsWord (w : List ℕ) : Type 0 where
+  pub some : 0 < length w
+  pub whole : NoSeparator w
+
+-- bytes that are no separators make the run behind them longer
+run-whole : (w s : List ℕ) → NoSeparator w → run false (w ++ s) ≡ length w + run false s
+unfolding run
+run-whole [] s whole = omega arith
+run-whole (b ∷ w) s whole =
+    rw (whole b (List·Memᴰ·head refl), run-whole w s (λ c there. whole c (List·Memᴰ·tail there))) (omega arith)
+
+-- a word before a text that goes on with a separator, or is empty
+word-first : (w s : List ℕ) → IsWord w → run false s ≡ 0 → words (w ++ s) ≡ w ∷ words s
+word-first w s is ends =
+    let long : run false (w ++ s) ≡ length w = omega (arith, run-whole w s (is .whole)) in
+    first-word (w ++ s) (omega (arith, is .some)) ∙ rw (long, take-append-seam w s, drop-append-seam w s)
+
+pub words-word : (w : List ℕ) (b : ℕ) (s : List ℕ) → IsWord w → isSeparator b ≡ true → words (w ++ (b ∷ s)) ≡ w ∷ words s
+unfolding run
+words-word w b s is splits = rw (word-first w (b ∷ s) is (rw splits), words-separator b s splits)
+
+pub words-last : (w : List ℕ) → IsWord w → words w ≡ w ∷ []
+unfolding run wordsFrom
+words-last w is = rw append-nil at (word-first w [] is refl)
+
+-- every one is a word: the one that has begun when it ends, and the others
+ended-is-word : (v w : List ℕ) → NoSeparator v → List·Memᴰ w (ended v) → IsWord w
+ended-is-word [] w whole there = absurd (List·Memᴰ·not-nil there)
+ended-is-word (b ∷ v) w whole there = rw (List·Memᴰ·eq-of-singleton there) (record { some = omega arith; whole = whole })
+
+none-whole : NoSeparator []
+none-whole b there = absurd (List·Memᴰ·not-nil there)
+
+longer-whole : (v : List ℕ) (b : ℕ) → NoSeparator v → isSeparator b ≡ false → NoSeparator (v ++ (b ∷ []))
+longer-whole v b whole other c there =
+    ⊎-elim (whole c) (λ (last : List·Memᴰ c (b ∷ [])). ap isSeparator (List·Memᴰ·eq-of-singleton last) ∙ other) (List·Memᴰ·append-cases v there)
+
+from-are-words : (v s w : List ℕ) → NoSeparator v → List·Memᴰ w (wordsFrom v s) → IsWord w
+unfolding wordsFrom
+from-are-words v [] w whole there = ended-is-word v w whole there
+from-are-words v (b ∷ s) w whole there =
+    by-test (isSeparator b) refl (from-are-words [] s w none-whole) (from-are-words (v ++ (b ∷ [])) s w) there
+  where
+    by-test : (t : Bool) → isSeparator b ≡ t → (List·Memᴰ w (words s) → IsWord w)
+        → (NoSeparator (v ++ (b ∷ [])) → List·Memᴰ w (wordsFrom (v ++ (b ∷ [])) s) → IsWord w)
+        → List·Memᴰ w (cond t (ended v ++ words s) (wordsFrom (v ++ (b ∷ [])) s)) → IsWord w
+    by-test true splits next longer among = ⊎-elim (ended-is-word v w whole) next (List·Memᴰ·append-cases (ended v) among)
+    by-test false other next longer among = longer (longer-whole v b whole other) among
+
+pub words-are-words : (s w : List ℕ) → List·Memᴰ w (words s) → IsWord w
+words-are-words s w = from-are-words [] s w none-whole
 
 -- separators before a text give no word, and behind them stands none
 skipped : (s : List ℕ) → words (drop (run true s) s) ≡ words s

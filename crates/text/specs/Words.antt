@@ -7,6 +7,7 @@
 -- For the code:
 --     isOf           a byte is a separator, or is not
 --     run            how many such bytes a text begins with
+-- `proofs/WordLaws.antt` has the rules of `words`, and that each word has a byte at least and no separator.
 use Prim.Native.Nat.{ℕ, suc}
 use mathlib.Core.Bool.{Bool, true, false, cond, not, _||_}
 use mathlib.Core.List.{List, [], _∷_, _++_}

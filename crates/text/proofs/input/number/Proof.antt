@@ -1,9 +1,8 @@
 -- `text::input::number` goes by the first byte: a minus, or the first of the digits.
 use borrow.Author.Needs.{needs}
-use borrow.Author.Tests.{eq-eqb, ne-eqb}
+use borrow.Author.Tests.{eq-eqb}
 use mathlib.Core.List.{List, [], _∷_}
-use mathlib.Core.Logic.{_≢_}
-use mathlib.Core.Path.{_≡_, refl, ap, _∙_}
+use mathlib.Core.Path.{_≡_, refl, sym, ap, _∙_}
 use mathlib.Core.Bool.{true, false}
 use native.Mathlib.Omega.{arith}
 use Prim.Native.Nat.{ℕ, suc, _-_, _<_}
@@ -12,7 +11,7 @@ use lib.Seq.{take-length}
 use Rattle.text.specs.declared.input.Digits.{Digits}
 use Rattle.text.specs.declared.input.Parsed.the-variants.{Invalid}
 use Rattle.text.specs.Number.{natural, IsShort, signed, number}
-use Rattle.text.proofs.NumberLaws.{natural-short}
+use Rattle.text.proofs.NumberLaws.{natural-short, number-unsigned}
 use Rattle.text.proofs.input.number.Statement.{statement}
 use Rattle.text.proofs.input.number.Tie as tie
 
@@ -27,11 +26,6 @@ with-minus [] some minus = absurd (omega arith)
 with-minus (b ∷ w) some minus =
     let rest : suc (length w) - 1 ≡ length w = omega arith in
     rw (eq-eqb b 45 minus, rest, take-length w)
-
-without-minus : (w : List ℕ) → 0 < length w → getD w 0 0 ≢ 45 → signed false (natural w) ≡ number w
-unfolding number
-without-minus [] some other = absurd (omega arith)
-without-minus (b ∷ w) some other = rw (ne-eqb b 45 other)
 
 short : (w : List ℕ) {d : Digits} → d ≡ natural w → IsShort d
 short w is = rw is (natural-short w)
@@ -67,7 +61,7 @@ signed-requires-2 : tie.Need-signed-requires-2
 signed-requires-2 c κs = short _ (c .natural2 .ensures)
 
 returns-3 : tie.Need-returns-3
-returns-3 c = c .signed2 .ensures ∙ ap (signed false) (c .before .natural2 .ensures) ∙ without-minus (c .before .before .before .before .before .before .args .w .now) (omega arith) (c .before .before .if2 .left)
+returns-3 c = c .signed2 .ensures ∙ ap (signed false) (c .before .natural2 .ensures) ∙ sym (number-unsigned (c .before .before .before .before .before .before .args .w .now) (omega arith) (c .before .before .if2 .left))
 
 pub number-spec : {M : Type 1} → statement M
 number-spec =

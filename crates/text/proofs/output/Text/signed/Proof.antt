@@ -1,9 +1,7 @@
 -- `Text::signed` goes by the sign: a minus and the size, or the number.
 use borrow.Author.Needs.{needs}
-use borrow.Author.Tests.{ltb-true}
 use mathlib.Core.Bool.{true, false, false≢true}
-use mathlib.Core.List.{_++_}
-use mathlib.Core.Path.{_≡_, refl, sym, ap, _∙_}
+use mathlib.Core.Path.{_≡_, sym, ap, _∙_}
 use native.Mathlib.Omega.{arith}
 use Prim.Native.Nat.{ℕ}
 use lib.Dec.{T}
@@ -16,6 +14,8 @@ use Rattle.text.specs.declared.output.Text.{Text}
 use Rattle.text.specs.Ascii.{ascii}
 use Rattle.text.specs.Decimal.{decimal, signedDecimal}
 use Rattle.text.specs.Output.{appended}
+use Rattle.integers.proofs.Order.{ltZ-true, ltZ-false}
+use Rattle.text.proofs.DecimalLaws.{signed-below, signed-above}
 use Rattle.text.proofs.OutputLaws.{appended-append}
 use Rattle.text.proofs.output.Text.signed.Statement.{statement}
 use Rattle.text.proofs.output.Text.signed.Tie as tie
@@ -25,17 +25,9 @@ natural-fits : (z : ℤ) → SFits w64 z → ltZ z (pos 0) ≡ false → T (nonN
 natural-fits (pos n) f e = (tt, record { fits = omega (arith, f .sfits) })
 natural-fits (negsuc n) f e = absurd (false≢true (sym e))
 
-negative : (z : ℤ) → ltZ z (pos 0) ≡ true → ascii "-" ++ decimal (natAbs z) ≡ signedDecimal z
-negative (pos n) below = absurd (omega (arith, ltb-true n 0 below))
-negative (negsuc n) below = refl
-
 with-minus : (t : Text) {u r : Text} {n : ℕ} (z : ℤ) → ltZ z (pos 0) ≡ true
     → u ≡ appended t (ascii "-") → n ≡ natAbs z → r ≡ appended u (decimal n) → r ≡ appended t (signedDecimal z)
-with-minus t z below minus size rest = rw (rest, minus, size, appended-append, negative z below)
-
-not-negative : (z : ℤ) → ltZ z (pos 0) ≡ false → decimal (natAbs z) ≡ signedDecimal z
-not-negative (pos n) e = refl
-not-negative (negsuc n) e = absurd (false≢true (sym e))
+with-minus t z below minus size rest = rw (rest, minus, size, appended-append, signed-below z (ltZ-true below))
 
 slice-aggregate-bytes : tie.Need-slice-aggregate-bytes
 slice-aggregate-bytes c = search needs
@@ -69,7 +61,7 @@ returns-2 c =
     let z = c .before .before .args .n in
     let f = c .before .before .fits .n in
     let above = rw (toZ-ofZ w64 z f) at (c .before .if1 .left) in
-    c .natural2 .ensures ∙ rw (toZ-ofZ w64 z f, not-negative z above)
+    c .natural2 .ensures ∙ rw (toZ-ofZ w64 z f, signed-above z (ltZ-false above))
 
 pub signed-spec : {M : Type 1} → statement M
 signed-spec =
