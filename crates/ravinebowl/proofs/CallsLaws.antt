@@ -12,13 +12,13 @@ use Rattle.nearest.specs.declared.NearestAnswer.{NearestAnswer}
 use Rattle.nearest.specs.Call.{nearestAnswer}
 use Rattle.hausdorff.specs.declared.Comparison.{Comparison}
 use Rattle.hausdorff.specs.Call.{comparison}
-use Rattle.ravinebowl.specs.Status.{wrongLength}
+use Rattle.ravinebowl.specs.Status.{wrongResultLength}
 use Rattle.ravinebowl.specs.Calls.{compareLength, statusOfComparison, listOfComparison, compareStatus, compareList}
 use Rattle.ravinebowl.specs.Calls.{nearestLength, statusOfNearest, listOfNearest, nearestStatus, nearestList}
 
 module _ (s t : List ℤ) (allowance : ℕ) (result : List ℤ) where
   pub compare-wrong : length result ≢ compareLength
-      → (compareStatus s t allowance result ≡ wrongLength) × (compareList s t allowance result ≡ result)
+      → (compareStatus s t allowance result ≡ wrongResultLength) × (compareList s t allowance result ≡ result)
   unfolding compareStatus compareList
   compare-wrong other = let test = ne-eqb (length result) compareLength other in (rw test, rw test)
 
@@ -30,7 +30,7 @@ module _ (s t : List ℤ) (allowance : ℕ) (result : List ℤ) where
 
 module _ (x y : ℤ) (s result : List ℤ) where
   pub nearest-wrong : length result ≢ nearestLength
-      → (nearestStatus x y s result ≡ wrongLength) × (nearestList x y s result ≡ result)
+      → (nearestStatus x y s result ≡ wrongResultLength) × (nearestList x y s result ≡ result)
   unfolding nearestStatus nearestList
   nearest-wrong other = let test = ne-eqb (length result) nearestLength other in (rw test, rw test)
 

@@ -16,7 +16,7 @@ use Rattle.outline.specs.declared.RefusedSide.{RefusedSide}
 use Rattle.outline.specs.declared.RefusedSide.the-variants.{NoSide, A, B}
 use Rattle.outline.specs.Refusal.{refusal}
 use Rattle.ravinebowl.specs.declared.status.Status.{Status}
-use Rattle.ravinebowl.specs.Status.{sideNumber, placeCount, firstPlace, secondPlace, answered, wrongLength, refusedStatus}
+use Rattle.ravinebowl.specs.Status.{sideNumber, placeCount, firstPlace, secondPlace, answered, wrongResultLength, refusedStatus}
 
 abbrev pub sideBy : ℕ → RefusedSide
 sideBy n = getD (NoSide ∷ A ∷ B ∷ []) n NoSide
@@ -41,7 +41,7 @@ pub refused-told : (r : Refusal) → refusalOf (refusedStatus r) ≡ r
 refused-told r = λ k. record { number = r .number; side = side-told (r .side) k; place = place-told (r .place) k }
 
 pub refused-code : (whose : RefusedSide) (f : Fault)
-    → (answered .code < refusedStatus (refusal whose f) .code) × (refusedStatus (refusal whose f) .code < wrongLength .code)
+    → (answered .code < refusedStatus (refusal whose f) .code) × (refusedStatus (refusal whose f) .code < wrongResultLength .code)
 refused-code whose OddLength = (lit< tt, lit< tt)
 refused-code whose TooFewCorners = (lit< tt, lit< tt)
 refused-code whose TooManyCorners = (lit< tt, lit< tt)

@@ -22,7 +22,7 @@ use Rattle.hausdorff.specs.declared.Comparison.{Comparison}
 use Rattle.hausdorff.specs.declared.Comparison.the-variants.{Refused, Spent, Done}
 use Rattle.hausdorff.specs.Call.{comparison}
 use Rattle.ravinebowl.specs.declared.status.Status.{Status}
-use Rattle.ravinebowl.specs.Status.{answered, wrongLength, refusedStatus}
+use Rattle.ravinebowl.specs.Status.{answered, wrongResultLength, refusedStatus}
 use Rattle.ravinebowl.specs.Results.{ofNearest, ofDone, ofSpent}
 
 abbrev pub nearestLength : ℕ
@@ -48,7 +48,7 @@ listOfComparison (Spent p) before = ofSpent p
 listOfComparison (Done d) before = ofDone d
 
 unfoldable pub compareStatus : List ℤ → List ℤ → ℕ → List ℤ → Status
-compareStatus s t allowance result = ifLong result compareLength (statusOfComparison (comparison s t allowance)) wrongLength
+compareStatus s t allowance result = ifLong result compareLength (statusOfComparison (comparison s t allowance)) wrongResultLength
 
 unfoldable pub compareList : List ℤ → List ℤ → ℕ → List ℤ → List ℤ
 compareList s t allowance result = ifLong result compareLength (listOfComparison (comparison s t allowance) result) result
@@ -62,7 +62,7 @@ listOfNearest (NotFound r) before = before
 listOfNearest (Found a) before = ofNearest a
 
 unfoldable pub nearestStatus : ℤ → ℤ → List ℤ → List ℤ → Status
-nearestStatus x y s result = ifLong result nearestLength (statusOfNearest (nearestAnswer (record { x = x; y = y }) s)) wrongLength
+nearestStatus x y s result = ifLong result nearestLength (statusOfNearest (nearestAnswer (record { x = x; y = y }) s)) wrongResultLength
 
 unfoldable pub nearestList : ℤ → ℤ → List ℤ → List ℤ → List ℤ
 nearestList x y s result = ifLong result nearestLength (listOfNearest (nearestAnswer (record { x = x; y = y }) s) result) result

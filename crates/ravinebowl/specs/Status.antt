@@ -2,7 +2,7 @@
 --     sideNumber                             the side of a refusal
 --     placeCount, firstPlace, secondPlace    how many place numbers a refusal has, and these
 --     answered                               the call answered (a comparison that is spent too)
---     wrongLength                            the result list has the wrong length
+--     wrongResultLength                      the result list has the wrong length
 --     refusedStatus                          the call refused
 use Prim.Native.Nat.{ℕ}
 use Rattle.outline.specs.declared.Place.{Place}
@@ -37,8 +37,8 @@ abbrev pub answered : Status
 answered = record { code = 0; side = 0; places = 0; first = 0; second = 0 }
 
 -- a code that is no refusal's number
-abbrev pub wrongLength : Status
-wrongLength = record { code = 100; side = 0; places = 0; first = 0; second = 0 }
+abbrev pub wrongResultLength : Status
+wrongResultLength = record { code = 100; side = 0; places = 0; first = 0; second = 0 }
 
 abbrev pub refusedStatus : Refusal → Status
 refusedStatus r = record {

@@ -27,7 +27,7 @@ pub extern "C" fn ravinebowl_compare(
     ensures list { λ _. ⌜ now (result .exit) ≡ compareList (now (a .entry)) (now (b .entry)) allowance (now (result .entry)) ⌝ }
 {
     if result.len() != COMPARE_LENGTH {
-        return status::wrong_length();
+        return status::wrong_result_length();
     }
     match calls::compare(a, b, allowance) {
         Comparison::Refused(refusal) => status::refused(refusal),
@@ -55,7 +55,7 @@ pub extern "C" fn ravinebowl_nearest_point(
     ensures list { λ _. ⌜ now (result .exit) ≡ nearestList x y (now (outline .entry)) (now (result .entry)) ⌝ }
 {
     if result.len() != NEAREST_LENGTH {
-        return status::wrong_length();
+        return status::wrong_result_length();
     }
     match calls::nearest_point(Corner { x, y }, outline) {
         NearestAnswer::Refused(refusal) => status::refused(refusal),

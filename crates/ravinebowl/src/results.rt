@@ -116,17 +116,11 @@ fn of_worst(worst: WorstSoFar) -> [i64; CORNER_LENGTH]
     ensures { λ r. ⌜ r ≡ ofWorst worst ⌝ }
 {
     match worst {
-        WorstSoFar::None => [
-            0,
-            ABSENT,
-            ABSENT,
-            ABSENT,
-            ABSENT,
-            ABSENT,
-            ABSENT,
-            ABSENT,
-            ABSENT,
-        ],
+        WorstSoFar::None => {
+            let mut none = [ABSENT; CORNER_LENGTH];
+            none[0] = 0;
+            none
+        }
         WorstSoFar::Worst(w) => of_corner(w),
     }
 }

@@ -3,7 +3,7 @@ use outline::Place;
 use outline::Refusal;
 use outline::RefusedSide;
 ghost use mathlib.Core.Path.{_≡_};
-ghost use Rattle.ravinebowl.specs.Status.{sideNumber, placeCount, firstPlace, secondPlace, answered, wrongLength, refusedStatus};
+ghost use Rattle.ravinebowl.specs.Status.{sideNumber, placeCount, firstPlace, secondPlace, answered, wrongResultLength, refusedStatus};
 
 // Whether a call answered and, if not, why: the code, the side of a refusal, how many place numbers it has, and these.
 #[repr(C)]
@@ -19,7 +19,7 @@ pub struct Status {
 const ANSWERED: u32 = 0;
 
 // The code of a call whose result list has the wrong length: no refusal has this number.
-const WRONG_LENGTH: u32 = 100;
+const WRONG_RESULT_LENGTH: u32 = 100;
 
 // A status with a code alone.
 fn plain(code: u32) -> Status
@@ -42,10 +42,10 @@ pub fn answered() -> Status
 }
 
 // The result list has the wrong length.
-pub fn wrong_length() -> Status
-    ensures { λ r. ⌜ r ≡ wrongLength ⌝ }
+pub fn wrong_result_length() -> Status
+    ensures { λ r. ⌜ r ≡ wrongResultLength ⌝ }
 {
-    plain(WRONG_LENGTH)
+    plain(WRONG_RESULT_LENGTH)
 }
 
 fn side_number(side: RefusedSide) -> u32

@@ -14,13 +14,13 @@ right : (c : tie.After-compare) {answer : Comparison} → c .compare .result ≡
     × (compareList (args .a .now) (args .b .now) (args .allowance) (args .result .now) ≡ listOfComparison answer (args .result .now)))
 right c is = compare-right _ _ _ _ (c .before .if1 .left) (sym (c .compare .ensures .0) ∙ is)
 
-wrong-length-requires : tie.Need-wrong-length-requires
-wrong-length-requires c κs = search needs
+wrong-result-length-requires : tie.Need-wrong-result-length-requires
+wrong-result-length-requires c κs = search needs
 
 returns : tie.Need-returns
 returns c =
     let (status, list) = compare-wrong _ _ _ _ (c .before .if1 .taken) in
-    (c .wrong-length .ensures ∙ sym status, sym list)
+    (c .wrong-result-length .ensures ∙ sym status, sym list)
 
 compare-requires : tie.Need-compare-requires
 compare-requires c κs = search needs
@@ -88,7 +88,7 @@ pub ravinebowl-compare-spec : {M : Type 1} → statement M
 ravinebowl-compare-spec =
     tie.close
     (tie.spec
-    wrong-length-requires
+    wrong-result-length-requires
     returns
     compare-requires
     enum-known-refusal

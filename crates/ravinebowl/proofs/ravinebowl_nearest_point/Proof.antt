@@ -19,13 +19,13 @@ right c is =
     let x = toZ-ofZ w32 (start .args .x) (start .fits .x) in let y = toZ-ofZ w32 (start .args .y) (start .fits .y) in
     nearest-right _ _ _ _ (c .before .if1 .left) (sym (rw (x, y) at (c .nearest-point .ensures)) ∙ is)
 
-wrong-length-requires : tie.Need-wrong-length-requires
-wrong-length-requires c κs = search needs
+wrong-result-length-requires : tie.Need-wrong-result-length-requires
+wrong-result-length-requires c κs = search needs
 
 returns : tie.Need-returns
 returns c =
     let (status, list) = nearest-wrong _ _ _ _ (c .before .if1 .taken) in
-    (c .wrong-length .ensures ∙ sym status, sym list)
+    (c .wrong-result-length .ensures ∙ sym status, sym list)
 
 nearest-point-requires : tie.Need-nearest-point-requires
 nearest-point-requires c κs = search needs
@@ -69,7 +69,7 @@ pub ravinebowl-nearest-point-spec : {M : Type 1} → statement M
 ravinebowl-nearest-point-spec =
     tie.close
     (tie.spec
-    wrong-length-requires
+    wrong-result-length-requires
     returns
     nearest-point-requires
     enum-known-refusal

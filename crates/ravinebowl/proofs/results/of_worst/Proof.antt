@@ -6,6 +6,9 @@ use Rattle.ravinebowl.proofs.results.of_worst.Tie as tie
 enum-told : tie.Need-enum-told
 enum-told c = search needs
 
+array-set-of-none : tie.Need-array-set-of-none
+array-set-of-none c = search needs
+
 enum-known-worst : tie.Need-enum-known-worst
 enum-known-worst c = search needs
 
@@ -20,4 +23,4 @@ returns-2 c = rw (c .before .before .worst .given .1) (c .of-corner .ensures)
 
 pub of-worst-spec : {M : Type 1} → statement M
 of-worst-spec =
-    tie.close (tie.spec enum-told enum-known-worst of-corner-requires returns returns-2)
+    tie.close (tie.spec enum-told array-set-of-none enum-known-worst of-corner-requires returns returns-2)
