@@ -1,6 +1,6 @@
 -- The numbers that a result list holds after a call, place by place.
 --     absent                      stands where a place does not apply
---     kindOf, ofFeature           the kind of a feature, and its number
+--     kindOf, numberOf            the kind of a feature, and its number
 --     sideOf                      the side of a corner
 --     ofNearest                   of a nearest point: feature kind and number, gap upper and lower, X, Y and D of the point
 --     ofCorner, ofWorst           of a corner with its gap: side and corner, and then as `ofNearest`; of the worst so far, or none
@@ -29,15 +29,15 @@ kindOf Within = pos 0
 kindOf (Corner i) = pos 1
 kindOf (Edge i) = pos 2
 
-abbrev pub ofFeature : Feature → ℤ
-ofFeature Within = absent
-ofFeature (Corner i) = pos i
-ofFeature (Edge i) = pos i
+abbrev pub numberOf : Feature → ℤ
+numberOf Within = absent
+numberOf (Corner i) = pos i
+numberOf (Edge i) = pos i
 
 abbrev pub ofNearest : NearestPoint → List ℤ
 ofNearest a =
     kindOf (a .feature)
-    ∷ ofFeature (a .feature)
+    ∷ numberOf (a .feature)
     ∷ pos (a .gap .upper)
     ∷ pos (a .gap .lower)
     ∷ a .point .x
@@ -59,7 +59,8 @@ ofWorst (Worst w) = ofCorner w
 
 -- kind, steps made, support corners of A and B, the worst so far, clearance
 abbrev pub row : ℤ → ℤ → ℤ → ℤ → WorstSoFar → ℤ → List ℤ
-row kind steps a b worst clearance = kind ∷ steps ∷ a ∷ b ∷ ofWorst worst ++ (clearance ∷ [])
+row kind steps support-a support-b worst clearance =
+    kind ∷ steps ∷ support-a ∷ support-b ∷ ofWorst worst ++ (clearance ∷ [])
 
 -- kind 0: no support corners
 abbrev pub ofDone : Done → List ℤ

@@ -1,6 +1,7 @@
 -- The status that every call returns.
 --     sideNumber                             the side of a refusal
 --     placeCount, firstPlace, secondPlace    how many place numbers a refusal has, and these
+--     plain                                  a status with a code alone
 --     answered                               the call answered (a comparison that is spent too)
 --     wrongResultLength                      the result list has the wrong length
 --     refusedStatus                          the call refused
@@ -33,12 +34,15 @@ secondPlace Nowhere = 0
 secondPlace (At i) = 0
 secondPlace (EdgeAndCorner e c) = c
 
+abbrev pub plain : ℕ → Status
+plain code = record { code = code; side = 0; places = 0; first = 0; second = 0 }
+
 abbrev pub answered : Status
-answered = record { code = 0; side = 0; places = 0; first = 0; second = 0 }
+answered = plain 0
 
 -- a code that is no refusal's number
 abbrev pub wrongResultLength : Status
-wrongResultLength = record { code = 100; side = 0; places = 0; first = 0; second = 0 }
+wrongResultLength = plain 100
 
 abbrev pub refusedStatus : Refusal → Status
 refusedStatus r = record {

@@ -10,7 +10,7 @@ ghost use mathlib.Core.Path.{_≡_};
 ghost use Prim.Native.Nat.{_^_, _<_};
 ghost use lib.IntN.{pos};
 ghost use lib.ListN.{length};
-ghost use Rattle.ravinebowl.specs.Results.{kindOf, sideOf, ofFeature, ofNearest, ofCorner, ofWorst, row, ofDone, ofSpent};
+ghost use Rattle.ravinebowl.specs.Results.{kindOf, numberOf, ofNearest, sideOf, ofCorner, ofWorst, row, ofDone, ofSpent};
 ghost use Rattle.ravinebowl.specs.Sizes.{FitFeature, FitNearest, FitCorner, FitWorst, FitDone, FitSpent};
 
 // How many numbers there are of a nearest point, of a corner with its gap, and of a comparison.
@@ -36,6 +36,7 @@ fn signed(n: u64) -> i64
     n as i64
 }
 
+// The kind of a feature.
 fn kind_of(feature: Feature) -> i64
     ensures { λ r. ⌜ r ≡ kindOf feature ⌝ }
 {
@@ -46,9 +47,10 @@ fn kind_of(feature: Feature) -> i64
     }
 }
 
+// The number of a feature that has one.
 fn number_of(feature: Feature) -> i64
     requires { ⌜ FitFeature feature ⌝ }
-    ensures { λ r. ⌜ r ≡ ofFeature feature ⌝ }
+    ensures { λ r. ⌜ r ≡ numberOf feature ⌝ }
 {
     match feature {
         Feature::Within => ABSENT,
@@ -74,6 +76,7 @@ pub fn of_nearest(a: NearestPoint) -> [i64; NEAREST_LENGTH]
     ]
 }
 
+// The side of a corner.
 fn side_of(side: Side) -> i64
     ensures { λ r. ⌜ r ≡ sideOf side ⌝ }
 {
@@ -129,20 +132,20 @@ fn of_worst(worst: WorstSoFar) -> [i64; CORNER_LENGTH]
 fn row(
     kind: i64,
     steps: i64,
-    a: i64,
-    b: i64,
+    support_a: i64,
+    support_b: i64,
     worst: WorstSoFar,
     clearance: i64,
 ) -> [i64; COMPARE_LENGTH]
     requires { ⌜ FitWorst worst ⌝ }
-    ensures { λ r. ⌜ r ≡ row kind steps a b worst clearance ⌝ }
+    ensures { λ r. ⌜ r ≡ row kind steps «support_a» «support_b» worst clearance ⌝ }
 {
     let w = of_worst(worst);
     [
         kind,
         steps,
-        a,
-        b,
+        support_a,
+        support_b,
         w[0],
         w[1],
         w[2],
@@ -178,9 +181,16 @@ pub fn of_spent(p: Spent) -> [i64; COMPARE_LENGTH]
     ensures { λ r. ⌜ r ≡ ofSpent p ⌝ }
 {
     let worst = p.worst;
-    let a = signed(p.support.a as u64);
-    let b = signed(p.support.b as u64);
-    row(SPENT, signed(p.steps as u64), a, b, worst, ABSENT)
+    let support_a = signed(p.support.a as u64);
+    let support_b = signed(p.support.b as u64);
+    row(
+        SPENT,
+        signed(p.steps as u64),
+        support_a,
+        support_b,
+        worst,
+        ABSENT,
+    )
 }
 
 // Copies numbers to a list of the same length.

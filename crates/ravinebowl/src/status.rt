@@ -3,7 +3,7 @@ use outline::Place;
 use outline::Refusal;
 use outline::RefusedSide;
 ghost use mathlib.Core.Path.{_≡_};
-ghost use Rattle.ravinebowl.specs.Status.{sideNumber, placeCount, firstPlace, secondPlace, answered, wrongResultLength, refusedStatus};
+ghost use Rattle.ravinebowl.specs.Status.{sideNumber, placeCount, firstPlace, secondPlace, plain, answered, wrongResultLength, refusedStatus};
 
 // Whether a call answered and, if not, why: the code, the side of a refusal, how many place numbers it has, and these.
 #[repr(C)]
@@ -23,7 +23,7 @@ const WRONG_RESULT_LENGTH: u32 = 100;
 
 // A status with a code alone.
 fn plain(code: u32) -> Status
-    ensures { λ r. ⌜ r ≡ record { code = code; side = 0; places = 0; first = 0; second = 0 } ⌝ }
+    ensures { λ r. ⌜ r ≡ plain code ⌝ }
 {
     Status {
         code,
@@ -48,6 +48,7 @@ pub fn wrong_result_length() -> Status
     plain(WRONG_RESULT_LENGTH)
 }
 
+// The number of a refusal's side.
 fn side_number(side: RefusedSide) -> u32
     ensures { λ r. ⌜ r ≡ sideNumber side ⌝ }
 {
@@ -58,6 +59,7 @@ fn side_number(side: RefusedSide) -> u32
     }
 }
 
+// How many place numbers a refusal has.
 fn place_count(place: Place) -> u32
     ensures { λ r. ⌜ r ≡ placeCount place ⌝ }
 {
@@ -68,6 +70,7 @@ fn place_count(place: Place) -> u32
     }
 }
 
+// The first place number, or 0.
 fn first_place(place: Place) -> usize
     ensures { λ r. ⌜ r ≡ firstPlace place ⌝ }
 {
@@ -78,6 +81,7 @@ fn first_place(place: Place) -> usize
     }
 }
 
+// The second place number, or 0.
 fn second_place(place: Place) -> usize
     ensures { λ r. ⌜ r ≡ secondPlace place ⌝ }
 {

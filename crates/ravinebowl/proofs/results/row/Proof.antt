@@ -54,10 +54,10 @@ returns c =
     let args = c .before .before .before .before .before .before .before .before .before .before .args in
     let kind = kept {z = args .kind} (search sfits-of) refl in
     let steps = kept {z = args .steps} (search sfits-of) refl in
-    let a = kept {z = args .a} (search sfits-of) refl in
-    let b = kept {z = args .b} (search sfits-of) refl in
+    let support-a = kept {z = args .support-a} (search sfits-of) refl in
+    let support-b = kept {z = args .support-b} (search sfits-of) refl in
     let clearance = kept {z = args .clearance} (search sfits-of) refl in
-    (λ k. kind k ∷ steps k ∷ a k ∷ b k
+    (λ k. kind k ∷ steps k ∷ support-a k ∷ support-b k
     ∷ element w 0 (search sfits-of) k
     ∷ element w 1 (search sfits-of) k
     ∷ element w 2 (search sfits-of) k
@@ -68,7 +68,7 @@ returns c =
     ∷ element w 7 (search sfits-of) k
     ∷ element w 8 (search sfits-of) k
     ∷ clearance k ∷ [])
-    ∙ ap (λ (l : List ℤ). args .kind ∷ args .steps ∷ args .a ∷ args .b ∷ l) (spread (args .worst) (args .clearance))
+    ∙ ap (λ (l : List ℤ). args .kind ∷ args .steps ∷ args .support-a ∷ args .support-b ∷ l) (spread (args .worst) (args .clearance))
 
 pub row-spec : {M : Type 1} → statement M
 row-spec =
