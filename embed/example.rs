@@ -1,45 +1,48 @@
 //! Calls Ravinebowl from Rust. example.c makes the same calls and prints the same lines.
 mod ravinebowl;
 
-use ravinebowl::{Comparison, CornerGap, Feature, NearestPoint, Place, Refusal, ENOUGH_STEPS};
+use ravinebowl::{Comparison, CornerGap, NearestPoint, ENOUGH_STEPS};
 
 const SQUARE: [i32; 8] = [0, 0, 4, 0, 4, 4, 0, 4];
 const TRIANGLE: [i32; 6] = [0, 0, 4, 0, 0, 4];
 const STAR: [i32; 10] = [0, 3, -2, -3, 3, 1, -3, 1, 2, -3];
 const WEDGE: [i32; 6] = [0, 0, 9, 0, 0, 3];
 
-fn refusal_text(refusal: Refusal) -> String {
-    let side = refusal.side.map_or(String::new(), |side| format!(" {side:?}"));
-    let place = match refusal.place {
-        Place::Nowhere => String::new(),
-        Place::Corner(i) => format!(" {i}"),
-        Place::EdgeAndCorner(e, c) => format!(" {e} {c}"),
-    };
-    format!("refused{side} {}{place}", refusal.number)
-}
-
 fn nearest_text(nearest: NearestPoint) -> String {
-    let feature = match nearest.feature {
-        Feature::Within => "within".to_string(),
-        Feature::Corner(i) => format!("corner {i}"),
-        Feature::Edge(i) => format!("edge {i}"),
-    };
-    let point = nearest.point;
-    let gap = nearest.gap;
-    format!("{feature} at {}/{d} {}/{d}, gap {}/{}", point.x, point.y, gap.upper, gap.lower, d = point.lower)
+    format!(
+        "{} at {}, gap {}",
+        nearest.feature, nearest.point, nearest.gap
+    )
 }
 
 fn worst_text(worst: CornerGap) -> String {
-    format!("{:?} {} to {}", worst.side, worst.corner, nearest_text(worst.nearest))
+    format!(
+        "{} {} to {}",
+        worst.side,
+        worst.corner,
+        nearest_text(worst.nearest)
+    )
 }
 
 fn compare(a: &[i32], b: &[i32], allowance: u32) {
     match ravinebowl::compare(a, b, allowance) {
-        Err(refusal) => println!("{}", refusal_text(refusal)),
-        Ok(Comparison::Done { steps, answer, clearance }) => {
-            println!("done in {steps} steps: {}, clearance {clearance}", worst_text(answer));
+        Err(refusal) => println!("{refusal}"),
+        Ok(Comparison::Done {
+            steps,
+            answer,
+            clearance,
+        }) => {
+            println!(
+                "done in {steps} steps: {}, clearance {clearance}",
+                worst_text(answer)
+            );
         }
-        Ok(Comparison::Spent { steps, support_a, support_b, worst }) => {
+        Ok(Comparison::Spent {
+            steps,
+            support_a,
+            support_b,
+            worst,
+        }) => {
             let worst = worst.map_or("no worst so far".to_string(), worst_text);
             println!("spent after {steps} steps, support corners A {support_a} and B {support_b}: {worst}");
         }
@@ -48,7 +51,7 @@ fn compare(a: &[i32], b: &[i32], allowance: u32) {
 
 fn nearest_point(x: i32, y: i32, outline: &[i32]) {
     match ravinebowl::nearest_point(x, y, outline) {
-        Err(refusal) => println!("{}", refusal_text(refusal)),
+        Err(refusal) => println!("{refusal}"),
         Ok(nearest) => println!("{}", nearest_text(nearest)),
     }
 }
@@ -56,7 +59,7 @@ fn nearest_point(x: i32, y: i32, outline: &[i32]) {
 /// `out` is the list to write.
 fn remove_corner(outline: &[i32], corner: usize, out: &mut [i32]) {
     match ravinebowl::remove_corner(outline, corner, out) {
-        Err(refusal) => println!("{}", refusal_text(refusal)),
+        Err(refusal) => println!("{refusal}"),
         Ok(()) => {
             let numbers: String = out.iter().map(|number| format!(" {number}")).collect();
             println!("remains{numbers}");
@@ -69,7 +72,11 @@ fn wrong_result_length() {
     let mut result = [5; ravinebowl::COMPARE_LENGTH - 1];
     let status = ravinebowl::compare_into(&SQUARE, &TRIANGLE, ENOUGH_STEPS, &mut result);
     let kept = result.iter().all(|&number| number == 5);
-    println!("code {}, list {}", status.code, if kept { "as it was" } else { "written" });
+    println!(
+        "code {}, list {}",
+        status.code,
+        if kept { "as it was" } else { "written" }
+    );
 }
 
 fn main() {

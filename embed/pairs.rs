@@ -3,7 +3,7 @@
 #[allow(dead_code)] // comparing alone is called here
 mod ravinebowl;
 
-use ravinebowl::{Comparison, CornerGap, Feature, Place, Refusal};
+use ravinebowl::{Comparison, CornerGap};
 use std::io::Read;
 
 /// The next list of the input: its length and its numbers. None at the end.
@@ -12,40 +12,28 @@ fn list<T: std::str::FromStr>(numbers: &mut std::str::SplitWhitespace) -> Option
     (0..length).map(|_| numbers.next()?.parse().ok()).collect()
 }
 
-fn refusal_text(refusal: Refusal) -> String {
-    let side = refusal.side.map_or(String::new(), |side| format!("{side:?} "));
-    match refusal.place {
-        Place::Nowhere => format!("refused {side}{}", refusal.number),
-        Place::Corner(i) => format!("refused {side}{} {i}", refusal.number),
-        Place::EdgeAndCorner(e, c) => format!("refused {side}{} {e} {c}", refusal.number),
-    }
-}
-
 fn gap_text(of: CornerGap) -> String {
     let nearest = of.nearest;
-    let feature = match nearest.feature {
-        Feature::Within => "within".to_string(),
-        Feature::Corner(i) => format!("corner {i}"),
-        Feature::Edge(i) => format!("edge {i}"),
-    };
-    let (gap, point) = (nearest.gap, nearest.point);
     format!(
-        "{:?} {} {feature} {}/{} {}/{d} {}/{d}",
-        of.side,
-        of.corner,
-        gap.upper,
-        gap.lower,
-        point.x,
-        point.y,
-        d = point.lower
+        "{} {} {} {} {}",
+        of.side, of.corner, nearest.feature, nearest.gap, nearest.point
     )
 }
 
 fn line(a: &[i32], b: &[i32], allowance: u32) -> String {
     match ravinebowl::compare(a, b, allowance) {
-        Err(refusal) => refusal_text(refusal),
-        Ok(Comparison::Done { steps, answer, clearance }) => format!("done {steps} {} {clearance}", gap_text(answer)),
-        Ok(Comparison::Spent { steps, support_a, support_b, worst }) => {
+        Err(refusal) => refusal.to_string(),
+        Ok(Comparison::Done {
+            steps,
+            answer,
+            clearance,
+        }) => format!("done {steps} {} {clearance}", gap_text(answer)),
+        Ok(Comparison::Spent {
+            steps,
+            support_a,
+            support_b,
+            worst,
+        }) => {
             let worst = worst.map_or("none".to_string(), gap_text);
             format!("spent {steps} {support_a} {support_b} {worst}")
         }
@@ -59,7 +47,9 @@ fn main() {
         std::process::exit(1);
     }
     let mut numbers = text.split_whitespace();
-    while let (Some(a), Some(b), Some(allowances)) = (list(&mut numbers), list(&mut numbers), list(&mut numbers)) {
+    while let (Some(a), Some(b), Some(allowances)) =
+        (list(&mut numbers), list(&mut numbers), list(&mut numbers))
+    {
         for allowance in allowances {
             println!("{}", line(&a, &b, allowance));
         }

@@ -1,5 +1,7 @@
 //! Ravinebowl from Rust: a safe wrapper of the C functions, which ravinebowl.h describes. No function panics, whatever it is handed.
 
+use std::fmt;
+
 /// What a C function returns: whether it answered and, if not, why.
 #[repr(C)]
 #[derive(Clone, Copy, Debug, PartialEq, Eq)]
@@ -128,6 +130,54 @@ pub struct Refusal {
     pub place: Place,
 }
 
+impl fmt::Display for Side {
+    fn fmt(&self, out: &mut fmt::Formatter) -> fmt::Result {
+        match self {
+            Side::A => write!(out, "A"),
+            Side::B => write!(out, "B"),
+        }
+    }
+}
+
+impl fmt::Display for Feature {
+    fn fmt(&self, out: &mut fmt::Formatter) -> fmt::Result {
+        match self {
+            Feature::Within => write!(out, "within"),
+            Feature::Corner(i) => write!(out, "corner {i}"),
+            Feature::Edge(i) => write!(out, "edge {i}"),
+        }
+    }
+}
+
+impl fmt::Display for Fraction {
+    fn fmt(&self, out: &mut fmt::Formatter) -> fmt::Result {
+        write!(out, "{}/{}", self.upper, self.lower)
+    }
+}
+
+impl fmt::Display for Point {
+    fn fmt(&self, out: &mut fmt::Formatter) -> fmt::Result {
+        write!(out, "{}/{d} {}/{d}", self.x, self.y, d = self.lower)
+    }
+}
+
+/// As in `refused A 6 0 3`: the side, the number and the place's numbers, if any.
+impl fmt::Display for Refusal {
+    fn fmt(&self, out: &mut fmt::Formatter) -> fmt::Result {
+        write!(out, "refused ")?;
+        if let Some(side) = self.side {
+            write!(out, "{side} ")?;
+        }
+        match self.place {
+            Place::Nowhere => write!(out, "{}", self.number),
+            Place::Corner(i) => write!(out, "{} {i}", self.number),
+            Place::EdgeAndCorner(e, c) => write!(out, "{} {e} {c}", self.number),
+        }
+    }
+}
+
+impl std::error::Error for Refusal {}
+
 fn side(number: i64) -> Option<Side> {
     match number {
         1 => Some(Side::A),
@@ -137,7 +187,7 @@ fn side(number: i64) -> Option<Side> {
 }
 
 impl Status {
-    /// `Ok` where the call answered.
+    /// `Ok` where the call answered. A result list of the wrong length counts as a refusal with the number 100.
     pub fn answered(self) -> Result<(), Refusal> {
         if self.code == 0 {
             return Ok(());
@@ -155,7 +205,7 @@ impl Status {
     }
 }
 
-/// The C functions over slices: the numbers are written to `result`, whose length must be `COMPARE_LENGTH` or `NEAREST_LENGTH`.
+/// As `compare`, with the numbers written to `result`, whose length must be `COMPARE_LENGTH`; ravinebowl.h names its places.
 pub fn compare_into(a: &[i32], b: &[i32], allowance: u32, result: &mut [i64]) -> Status {
     // SAFETY: each pointer is good for its length, `result` overlaps no other list, and none is kept.
     unsafe {
@@ -171,9 +221,19 @@ pub fn compare_into(a: &[i32], b: &[i32], allowance: u32, result: &mut [i64]) ->
     }
 }
 
+/// As `nearest_point`, with the numbers written to `result`, whose length must be `NEAREST_LENGTH`.
 pub fn nearest_point_into(x: i32, y: i32, outline: &[i32], result: &mut [i64]) -> Status {
     // SAFETY: as above.
-    unsafe { ravinebowl_nearest_point(x, y, outline.as_ptr(), outline.len(), result.as_mut_ptr(), result.len()) }
+    unsafe {
+        ravinebowl_nearest_point(
+            x,
+            y,
+            outline.as_ptr(),
+            outline.len(),
+            result.as_mut_ptr(),
+            result.len(),
+        )
+    }
 }
 
 /// The nearest point that the numbers of a result list give.
@@ -201,7 +261,8 @@ fn nearest(numbers: [i64; NEAREST_LENGTH]) -> NearestPoint {
 pub fn compare(a: &[i32], b: &[i32], allowance: u32) -> Result<Comparison, Refusal> {
     let mut result = [0; COMPARE_LENGTH];
     compare_into(a, b, allowance, &mut result).answered()?;
-    let [kind, steps, support_a, support_b, of, corner, feature, number, upper, lower, x, y, d, clearance] = result;
+    let [kind, steps, support_a, support_b, of, corner, feature, number, upper, lower, x, y, d, clearance] =
+        result;
     let steps = steps as u32;
     let worst = side(of).map(|side| CornerGap {
         side,
@@ -233,6 +294,14 @@ pub fn nearest_point(x: i32, y: i32, outline: &[i32]) -> Result<NearestPoint, Re
 /// Removes a corner and writes the others to `out`, which must be exactly as long as what remains; a refusal leaves it as it was.
 pub fn remove_corner(outline: &[i32], corner: usize, out: &mut [i32]) -> Result<(), Refusal> {
     // SAFETY: as above.
-    let status = unsafe { ravinebowl_remove_corner(outline.as_ptr(), outline.len(), corner, out.as_mut_ptr(), out.len()) };
+    let status = unsafe {
+        ravinebowl_remove_corner(
+            outline.as_ptr(),
+            outline.len(),
+            corner,
+            out.as_mut_ptr(),
+            out.len(),
+        )
+    };
     status.answered()
 }
