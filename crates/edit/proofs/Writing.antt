@@ -1,6 +1,6 @@
 -- Writing corners to a list, one after the other.
 --     copied d s n    the list d with the first n numbers of s over its first n
---     copied-length, copied-all    it is as long as d; after the last number it is s
+--     copied-length, copied-suc, copied-all    it is as long as d; one number more; after the last number it is s
 --     put-next        corner j of cs, put to its place, makes two numbers more of the corners' numbers
 use Prim.Native.Nat.{ℕ, suc, _+_, _*_, _≤_, _<_}
 use mathlib.Core.Path.{_≡_}
@@ -20,7 +20,7 @@ module _ (d s : List ℤ) where
   abbrev pub copied : ℕ → List ℤ
   copied n = take n s ++ drop n d
 
-  copied-suc : (n : ℕ) → n < length d → n < length s → set (copied n) n (getD s n (pos 0)) ≡ copied (suc n)
+  pub copied-suc : (n : ℕ) → n < length d → n < length s → set (copied n) n (getD s n (pos 0)) ≡ copied (suc n)
   copied-suc n room below = simp zero-add at (paste-suc d 0 s n (pos 0) (omega arith) below)
 
   pub copied-length : (n : ℕ) → length d ≡ length s → n ≤ length s → length (copied n) ≡ length d

@@ -3,6 +3,7 @@
 --     is-comparison                   what the call gives is as document 01 lays down: a refusal for the first fault of A's list, or
 --                                     else of B's, or else a report that obeys the law
 --     comparison-unique               and nothing else is
+--     both-accepted                   the pair of two accepted outlines
 --     reported-means                  where it is spent or done both lists are accepted, and the law holds of what is reported
 -- For the code, by what reading the lists gives:
 --     call-asks                       a list is taken: what the steps ask of the outline
@@ -62,7 +63,7 @@ same-report (ReportSpent p) (ReportDone d) is = cc
 same-report (ReportDone d) (ReportSpent p) is = cc
 same-report (ReportDone d) (ReportDone e) is = cc
 
-both-accepted : (ps qs : List Corner) → Accepted ps → Accepted qs → AcceptedPair (both ps qs)
+pub both-accepted : (ps qs : List Corner) → Accepted ps → Accepted qs → AcceptedPair (both ps qs)
 both-accepted ps qs ok-a ok-b SideA = ok-a
 both-accepted ps qs ok-a ok-b SideB = ok-b
 

@@ -1,0 +1,86 @@
+-- What the calls return and leave in a result list, by its length and by what the wrapped call answers.
+--     compare-wrong, nearest-wrong    the result list has the wrong length
+--     compare-right, nearest-right    it has the right length, and this is answered
+-- Where the code is not that of an answer, no list was written:
+--     NotAnswered, compare-kept, nearest-kept, removal-kept
+use Prim.Native.Nat.{ℕ}
+use mathlib.Core.Path.{_≡_, refl}
+use mathlib.Core.Bool.{Bool, true, false, cond}
+use mathlib.Core.Logic.{_≢_}
+use mathlib.Core.List.{List}
+use borrow.Author.Tests.{eq-eqb, ne-eqb}
+use lib.Dec.{eqb}
+use lib.IntN.{ℤ}
+use lib.ListN.{length}
+use Rattle.outline.specs.declared.Check.{Check}
+use Rattle.outline.specs.declared.Check.the-variants.{Passed, Failed}
+use Rattle.outline.specs.declared.RefusedSide.the-variants.{NoSide}
+use Rattle.outline.specs.Checks.{ifPassed}
+use Rattle.outline.specs.Refusal.{verdict}
+use Rattle.edit.specs.Removal.{removal, listAfter}
+use Rattle.nearest.specs.declared.NearestAnswer.{NearestAnswer}
+use Rattle.nearest.specs.declared.NearestAnswer.the-variants.{Found, Refused as NotFound}
+use Rattle.nearest.specs.Call.{nearestAnswer}
+use Rattle.hausdorff.specs.declared.Comparison.{Comparison}
+use Rattle.hausdorff.specs.declared.Comparison.the-variants.{Refused, Spent, Done}
+use Rattle.hausdorff.specs.Call.{comparison}
+use Rattle.ravinebowl.specs.declared.status.Status.{Status}
+use Rattle.ravinebowl.specs.Status.{answered, wrongResultLength}
+use Rattle.ravinebowl.specs.Calls.{compareLength, statusOfComparison, listOfComparison, compareStatus, compareList}
+use Rattle.ravinebowl.specs.Calls.{nearestLength, statusOfNearest, listOfNearest, nearestStatus, nearestList, statusOfVerdict, removalStatus}
+
+abbrev pub NotAnswered : Status → Type 0
+NotAnswered status = status .code ≢ answered .code
+
+-- by the length of the result list
+kept-by-length : (status : Status) {list before : List ℤ} (long : Bool) → (NotAnswered status → list ≡ before)
+    → NotAnswered (cond long status wrongResultLength) → cond long list before ≡ before
+kept-by-length status true by-answer not = by-answer not
+kept-by-length status false by-answer not = refl
+
+module _ (s t : List ℤ) (allowance : ℕ) (result : List ℤ) where
+  pub compare-wrong : length result ≢ compareLength
+      → (compareStatus s t allowance result ≡ wrongResultLength) × (compareList s t allowance result ≡ result)
+  unfolding compareStatus compareList
+  compare-wrong other = let test = ne-eqb (length result) compareLength other in (rw test, rw test)
+
+  pub compare-right : length result ≡ compareLength → {answer : Comparison} → comparison s t allowance ≡ answer
+      → (compareStatus s t allowance result ≡ statusOfComparison answer)
+      × (compareList s t allowance result ≡ listOfComparison answer result)
+  unfolding compareStatus compareList
+  compare-right same is = let test = eq-eqb (length result) compareLength same in (rw (test, is), rw (test, is))
+
+  pub compare-kept : NotAnswered (compareStatus s t allowance result) → compareList s t allowance result ≡ result
+  unfolding compareStatus compareList
+  compare-kept = kept-by-length _ (eqb (length result) compareLength) (by-answer (comparison s t allowance))
+    where
+      by-answer : (answer : Comparison) → NotAnswered (statusOfComparison answer) → listOfComparison answer result ≡ result
+      by-answer (Refused r) not = refl
+      by-answer (Spent p) not = absurd (not refl)
+      by-answer (Done d) not = absurd (not refl)
+
+module _ (x y : ℤ) (s result : List ℤ) where
+  pub nearest-wrong : length result ≢ nearestLength
+      → (nearestStatus x y s result ≡ wrongResultLength) × (nearestList x y s result ≡ result)
+  unfolding nearestStatus nearestList
+  nearest-wrong other = let test = ne-eqb (length result) nearestLength other in (rw test, rw test)
+
+  pub nearest-right : length result ≡ nearestLength → {answer : NearestAnswer} → nearestAnswer (record { x = x; y = y }) s ≡ answer
+      → (nearestStatus x y s result ≡ statusOfNearest answer) × (nearestList x y s result ≡ listOfNearest answer result)
+  unfolding nearestStatus nearestList
+  nearest-right same is = let test = eq-eqb (length result) nearestLength same in (rw (test, is), rw (test, is))
+
+  pub nearest-kept : NotAnswered (nearestStatus x y s result) → nearestList x y s result ≡ result
+  unfolding nearestStatus nearestList
+  nearest-kept = kept-by-length _ (eqb (length result) nearestLength) (by-answer (nearestAnswer (record { x = x; y = y }) s))
+    where
+      by-answer : (answer : NearestAnswer) → NotAnswered (statusOfNearest answer) → listOfNearest answer result ≡ result
+      by-answer (NotFound r) not = refl
+      by-answer (Found a) not = absurd (not refl)
+
+pub removal-kept : (s : List ℤ) (k : ℕ) (out : List ℤ) → NotAnswered (removalStatus s k out) → listAfter s k out ≡ out
+removal-kept s k out = by-check (removal s k (length out)) _
+  where
+    by-check : (c : Check) (remains : List ℤ) → NotAnswered (statusOfVerdict (verdict NoSide c)) → ifPassed c remains out ≡ out
+    by-check Passed remains not = absurd (not refl)
+    by-check (Failed f) remains not = refl

@@ -1,0 +1,127 @@
+-- Every number of an answer fits an i64: none is above 2,048,000,000 squared, which is below 2^63.
+--     values-fit       of what document 01 lays down for a feature of an accepted outline and a point in range
+--     answers-fit      so of the nearest point
+--     corner-fits      and of a corner with its gap to the other outline
+--     found-fits       what the call for the nearest point answers
+--     done-fits, spent-fits    what the call that compares answers
+use Prim.Native.Nat.{ℕ, zero, suc, zero-le, _*_, _^_, _≤_, _<_}
+use mathlib.Core.Path.{_≡_, refl, sym, subst}
+use mathlib.Core.List.{List}
+use native.Mathlib.Nat.{le-trans, lt-of-le-of-lt, lt-of-lt-of-le, le-mul-of-pos-right}
+use native.Mathlib.Omega.{arith}
+use lib.Dec.{T, ltb, lit<, lit≤, ltb→lt}
+use lib.IntN.{ℤ, natAbs}
+use lib.ListN.{length}
+use Rattle.integers.specs.Size.{AtMost}
+use Rattle.integers.proofs.Machine.{atMost-*}
+use Rattle.plane.specs.declared.Corner.{Corner}
+use Rattle.plane.specs.declared.Point.{Point}
+use Rattle.plane.specs.Point.{whole}
+use Rattle.plane.specs.Range.{InRange}
+use Rattle.plane.proofs.Arithmetic.{dot-is}
+use Rattle.plane.proofs.Range.{span-⇀, atMost-side}
+use Rattle.outline.specs.Convex.{Accepted}
+use Rattle.outline.proofs.Acceptance.{accepted-polygon}
+use Rattle.outline.proofs.CornersLaws.{next-below}
+use Rattle.nearest.specs.declared.Feature.{Feature}
+use Rattle.nearest.specs.declared.Feature.the-variants.{Within, Corner as AtCorner, Edge as OnEdge}
+use Rattle.nearest.specs.declared.NearestPoint.{NearestPoint}
+use Rattle.nearest.specs.declared.NearestAnswer.the-variants.{Found}
+use Rattle.nearest.specs.Call.{nearestAnswer}
+use Rattle.nearest.specs.Feature.{values}
+use Rattle.nearest.specs.Nearest.{Fits, Answers}
+use Rattle.nearest.proofs.CallLaws.{call-answers}
+use Rattle.hausdorff.specs.declared.CornerGap.{CornerGap}
+use Rattle.hausdorff.specs.declared.WorstSoFar.{WorstSoFar}
+use Rattle.hausdorff.specs.declared.WorstSoFar.the-variants.{None, Worst}
+use Rattle.hausdorff.specs.declared.Side.{Side}
+use Rattle.hausdorff.specs.declared.Side.the-variants.{A, B}
+use Rattle.hausdorff.specs.declared.Spent.{Spent}
+use Rattle.hausdorff.specs.declared.Done.{Done}
+use Rattle.hausdorff.specs.declared.Report.the-variants.{Spent as ReportSpent, Done as ReportDone}
+use Rattle.hausdorff.specs.declared.Comparison.the-variants.{Spent as IsSpent, Done as IsDone}
+use Rattle.hausdorff.specs.Pair.{Pair, AcceptedPair, other}
+use Rattle.hausdorff.specs.Answer.{IsGap}
+use Rattle.hausdorff.specs.Sweep.{after}
+use Rattle.hausdorff.specs.Law.{OfDone, OfSpent}
+use Rattle.hausdorff.specs.Call.{IsComparison}
+use Rattle.hausdorff.proofs.CallLaws.{both-accepted, reported-means}
+use Rattle.hausdorff.proofs.WorstLaws.{support-known}
+use Rattle.ravinebowl.specs.Sizes.{Fit, FitNearest, FitCorner, FitWorst, FitDone, FitSpent}
+
+-- a number of known size
+size-fits : {b : ℕ} {z : ℤ} → AtMost b z → T (ltb b (2 ^ 63)) → Fit (natAbs z)
+size-fits {b} bound small = lt-of-le-of-lt (bound .size) (ltb→lt b (2 ^ 63) small)
+
+module _ {cs : List Corner} (ok : Accepted cs) where
+  -- a corner's number
+  number-fits : (i : ℕ) → i < length cs → Fit i
+  number-fits i below = lt-of-lt-of-le below (le-trans (ok .at-most) (lit≤ tt))
+
+  module _ {v : Corner} (in-range : InRange v) where
+    -- a squared distance and a squared length are at most 2,048,000,000, and a side number too
+    values-fit : (y : Point) (f : Feature) → Fits cs (whole v) y f → FitNearest (values cs v f)
+    values-fit y Within h = record { feature = tt; upper = lit< tt; lower = lit< tt; point-lower = lit< tt }
+    values-fit y (AtCorner i) (outside, below, same) =
+        let to = span-⇀ (ok .in-range i below) in-range in
+        record { feature = number-fits i below; upper = size-fits (dot-is to to .bound) tt; lower = lit< tt; point-lower = lit< tt }
+    values-fit y (OnEdge i) (outside, below, between) =
+        let p = ok .in-range i below in
+        let q = ok .in-range _ (next-below (length cs) i (omega arith)) in
+        let side = atMost-side p q in-range in
+        let long = size-fits (dot-is (span-⇀ p q) (span-⇀ p q) .bound) tt in
+        record { feature = number-fits i below; upper = size-fits (atMost-* side side) tt; lower = long; point-lower = long }
+
+    answers-fit : {a : NearestPoint} → Answers cs v a → FitNearest a
+    answers-fit {a} is =
+        subst (λ (x : NearestPoint). FitNearest x) (sym (is .written)) (values-fit (a .point) (a .feature) (is .fits))
+
+pub found-fits : (v : Corner) (s : List ℤ) {a : NearestPoint} → nearestAnswer v s ≡ Found a → FitNearest a
+found-fits v s {a} is =
+    let (ok, in-range, answers) = call-answers v s a .0 is in answers-fit (ok .1) in-range answers
+
+-- a clearance is not above the gap's upper number
+root-small : (m l : ℕ) → 0 < l → m ≤ m * m * l
+root-small zero l positive = zero-le
+root-small (suc m) l positive =
+    le-trans (le-mul-of-pos-right (suc m) (omega arith)) (le-mul-of-pos-right (suc m * suc m) positive)
+
+module _ {pair : Pair} (ok : AcceptedPair pair) where
+  corner-fits : {w : CornerGap} → IsGap pair w → FitCorner w
+  corner-fits {w} is = record {
+    corner = number-fits (ok (w .side)) (w .corner) (is .known);
+    nearest = answers-fit (ok (other (w .side))) (ok (w .side) .in-range (w .corner) (is .known)) (is .answers);
+  }
+
+  worst-fits : (x : WorstSoFar) → ((w : CornerGap) → x ≡ Worst w → IsGap pair w) → FitWorst x
+  worst-fits None is = tt
+  worst-fits (Worst w) is = corner-fits (is w refl)
+
+  of-done-fits : {n : ℕ} {d : Done} → OfDone pair n d → FitDone d
+  of-done-fits {d} of =
+      let answer = corner-fits (of .as-defined .is-gap) in record {
+        answer = answer;
+        clearance = lt-of-le-of-lt (le-trans (root-small (d .clearance) (d .answer .gap .lower) (of .distance .lower-positive))
+            (of .clearance-figure .not-above)) (answer .nearest .upper);
+      }
+
+  support-fits : (k : ℕ) (s : Side) → Fit (after pair k .support s)
+  support-fits k s = number-fits (ok s) _ (support-known pair (λ t. accepted-polygon (ok t)) k s)
+
+  of-spent-fits : {n : ℕ} {p : Spent} → OfSpent pair n p → FitSpent p
+  of-spent-fits {n} {p} of = record {
+    support-a = rw (of .laid-down) (support-fits n A);
+    support-b = rw (of .laid-down) (support-fits n B);
+    worst = worst-fits (p .worst) (λ w is. of .worst-counted w is .is-gap);
+  }
+
+module _ (s t : List ℤ) (allowance : ℕ) where
+  pub done-fits : {d : Done} → IsComparison s t allowance (IsDone d) → FitDone d
+  done-fits {d} is =
+      let (ok-a, (ok-b, lawful)) = reported-means s t allowance (ReportDone d) is in
+      of-done-fits (both-accepted _ _ (ok-a .1) (ok-b .1)) (lawful .of-done d refl)
+
+  pub spent-fits : {p : Spent} → IsComparison s t allowance (IsSpent p) → FitSpent p
+  spent-fits {p} is =
+      let (ok-a, (ok-b, lawful)) = reported-means s t allowance (ReportSpent p) is in
+      of-spent-fits (both-accepted _ _ (ok-a .1) (ok-b .1)) (lawful .of-spent p refl)

@@ -1,0 +1,5 @@
+-- Laws about what the exported calls return and write.
+pub mod StatusLaws
+pub mod Signed
+pub mod Fitting
+pub mod CallsLaws

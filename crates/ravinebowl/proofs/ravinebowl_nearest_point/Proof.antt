@@ -1,0 +1,84 @@
+-- `ravinebowl::ravinebowl_nearest_point` goes by the length of the result list and then by what the call for the nearest point answers.
+use borrow.Author.Needs.{needs}
+use mathlib.Core.Path.{_≡_, sym, _∙_}
+use mir.Syntax.{w32}
+use mir.ValLaws.{toZ-ofZ}
+use Rattle.nearest.specs.declared.NearestAnswer.{NearestAnswer}
+use Rattle.ravinebowl.specs.Calls.{nearestStatus, nearestList, statusOfNearest, listOfNearest}
+use Rattle.ravinebowl.proofs.Fitting.{found-fits}
+use Rattle.ravinebowl.proofs.CallsLaws.{nearest-wrong, nearest-right}
+use Rattle.ravinebowl.proofs.ravinebowl_nearest_point.Statement.{statement}
+use Rattle.ravinebowl.proofs.ravinebowl_nearest_point.Tie as tie
+
+-- the result list has the right length, and the call for the nearest point answers this. The point is the one that was handed over
+right : (c : tie.After-nearest-point) {answer : NearestAnswer} → c .nearest-point .result ≡ answer → (let args = c .before .before .args in
+    (nearestStatus (args .x) (args .y) (args .outline .now) (args .result .now) ≡ statusOfNearest answer)
+    × (nearestList (args .x) (args .y) (args .outline .now) (args .result .now) ≡ listOfNearest answer (args .result .now)))
+right c is =
+    let start = c .before .before in
+    let x = toZ-ofZ w32 (start .args .x) (start .fits .x) in let y = toZ-ofZ w32 (start .args .y) (start .fits .y) in
+    nearest-right _ _ _ _ (c .before .if1 .left) (sym (rw (x, y) at (c .nearest-point .ensures)) ∙ is)
+
+wrong-result-length-requires : tie.Need-wrong-result-length-requires
+wrong-result-length-requires c κs = search needs
+
+returns : tie.Need-returns
+returns c =
+    let (status, list) = nearest-wrong _ _ _ _ (c .before .if1 .taken) in
+    (c .wrong-result-length .ensures ∙ sym status, sym list)
+
+nearest-point-requires : tie.Need-nearest-point-requires
+nearest-point-requires c κs = search needs
+
+enum-known-refusal : tie.Need-enum-known-refusal
+enum-known-refusal c = search needs
+
+refused-requires : tie.Need-refused-requires
+refused-requires c κs = search needs
+
+enum-known-found : tie.Need-enum-known-found
+enum-known-found c = search needs
+
+of-nearest-requires : tie.Need-of-nearest-requires
+of-nearest-requires c κs = found-fits _ _ (sym (c .before .before .before .nearest-point .ensures) ∙ c .before .found .given .1)
+
+slice-aggregate-write : tie.Need-slice-aggregate-write
+slice-aggregate-write c = search needs
+
+write-requires : tie.Need-write-requires
+write-requires c κs = search needs
+
+answered-requires : tie.Need-answered-requires
+answered-requires c κs = search needs
+
+returns-2 : tie.Need-returns-2
+returns-2 c =
+    let known = c .before .before in let (status, list) = right (known .before .before) (known .refusal .given .1) in
+    (c .refused .ensures ∙ sym status, sym list)
+
+same-length : tie.Need-same-length
+same-length c = search needs
+
+returns-3 : tie.Need-returns-3
+returns-3 c =
+    let wrote = c .before .before in let made = wrote .before .before .before in let known = made .before .before in
+    let (status, list) = right (known .before .before) (known .found .given .1) in
+    (c .answered .ensures ∙ sym status, wrote .write .ensures ∙ made .of-nearest .ensures ∙ sym list)
+
+pub ravinebowl-nearest-point-spec : {M : Type 1} → statement M
+ravinebowl-nearest-point-spec =
+    tie.close
+    (tie.spec
+    wrong-result-length-requires
+    returns
+    nearest-point-requires
+    enum-known-refusal
+    refused-requires
+    enum-known-found
+    of-nearest-requires
+    slice-aggregate-write
+    write-requires
+    answered-requires
+    returns-2
+    same-length
+    returns-3)

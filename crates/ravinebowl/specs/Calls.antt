@@ -1,0 +1,75 @@
+-- What each call returns, and what it leaves in the list that it may write.
+--     nearestLength, compareLength            how long a result list must be
+--     ifLong                                  one value where a list has the right length, another where not
+--     statusOfComparison, listOfComparison    by what comparing answers: the status, and the result list, given what it held before
+--     compareStatus, compareList              of `ravinebowl_compare`
+--     statusOfNearest, listOfNearest          the same for the nearest point
+--     nearestStatus, nearestList              of `ravinebowl_nearest_point`
+--     statusOfVerdict, removalStatus          of `ravinebowl_remove_corner`; its list is `listAfter` of `edit/specs/Removal.antt`
+use Prim.Native.Nat.{ℕ}
+use mathlib.Core.Bool.{cond}
+use mathlib.Core.List.{List}
+use lib.Dec.{eqb}
+use lib.IntN.{ℤ}
+use lib.ListN.{length}
+use Rattle.outline.specs.declared.Verdict.{Verdict}
+use Rattle.outline.specs.declared.Verdict.the-variants.{Taken, Refused as NotTaken}
+use Rattle.edit.specs.Removal.{removalVerdict}
+use Rattle.nearest.specs.declared.NearestAnswer.{NearestAnswer}
+use Rattle.nearest.specs.declared.NearestAnswer.the-variants.{Found, Refused as NotFound}
+use Rattle.nearest.specs.Call.{nearestAnswer}
+use Rattle.hausdorff.specs.declared.Comparison.{Comparison}
+use Rattle.hausdorff.specs.declared.Comparison.the-variants.{Refused, Spent, Done}
+use Rattle.hausdorff.specs.Call.{comparison}
+use Rattle.ravinebowl.specs.declared.status.Status.{Status}
+use Rattle.ravinebowl.specs.Status.{answered, wrongResultLength, refusedStatus}
+use Rattle.ravinebowl.specs.Results.{ofNearest, ofDone, ofSpent}
+
+abbrev pub nearestLength : ℕ
+nearestLength = 7
+
+abbrev pub compareLength : ℕ
+compareLength = 14
+
+-- the length is judged before anything else
+abbrev pub ifLong : {X : Type 0} → List ℤ → ℕ → X → X → X
+ifLong result long right wrong = cond (eqb (length result) long) right wrong
+
+-- being spent is no refusal
+abbrev pub statusOfComparison : Comparison → Status
+statusOfComparison (Refused r) = refusedStatus r
+statusOfComparison (Spent p) = answered
+statusOfComparison (Done d) = answered
+
+-- a refused call writes to no list
+abbrev pub listOfComparison : Comparison → List ℤ → List ℤ
+listOfComparison (Refused r) before = before
+listOfComparison (Spent p) before = ofSpent p
+listOfComparison (Done d) before = ofDone d
+
+unfoldable pub compareStatus : List ℤ → List ℤ → ℕ → List ℤ → Status
+compareStatus s t allowance result = ifLong result compareLength (statusOfComparison (comparison s t allowance)) wrongResultLength
+
+unfoldable pub compareList : List ℤ → List ℤ → ℕ → List ℤ → List ℤ
+compareList s t allowance result = ifLong result compareLength (listOfComparison (comparison s t allowance) result) result
+
+abbrev pub statusOfNearest : NearestAnswer → Status
+statusOfNearest (NotFound r) = refusedStatus r
+statusOfNearest (Found a) = answered
+
+abbrev pub listOfNearest : NearestAnswer → List ℤ → List ℤ
+listOfNearest (NotFound r) before = before
+listOfNearest (Found a) before = ofNearest a
+
+unfoldable pub nearestStatus : ℤ → ℤ → List ℤ → List ℤ → Status
+nearestStatus x y s result = ifLong result nearestLength (statusOfNearest (nearestAnswer (record { x = x; y = y }) s)) wrongResultLength
+
+unfoldable pub nearestList : ℤ → ℤ → List ℤ → List ℤ → List ℤ
+nearestList x y s result = ifLong result nearestLength (listOfNearest (nearestAnswer (record { x = x; y = y }) s) result) result
+
+abbrev pub statusOfVerdict : Verdict → Status
+statusOfVerdict Taken = answered
+statusOfVerdict (NotTaken r) = refusedStatus r
+
+abbrev pub removalStatus : List ℤ → ℕ → List ℤ → Status
+removalStatus s k out = statusOfVerdict (removalVerdict s k out)

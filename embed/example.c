@@ -1,0 +1,127 @@
+/* Calls Ravinebowl from C. example.rs makes the same calls and prints the same lines. */
+#include "ravinebowl.h"
+
+#include <inttypes.h>
+#include <stdio.h>
+
+#define COUNT(list) (sizeof(list) / sizeof(list)[0])
+
+static const int32_t SQUARE[] = {0, 0, 4, 0, 4, 4, 0, 4};
+static const int32_t TRIANGLE[] = {0, 0, 4, 0, 0, 4};
+static const int32_t STAR[] = {0, 3, -2, -3, 3, 1, -3, 1, 2, -3};
+static const int32_t WEDGE[] = {0, 0, 9, 0, 0, 3};
+
+static char side_name(int64_t side) {
+    return side == RAVINEBOWL_SIDE_A ? 'A' : 'B';
+}
+
+static void print_refusal(struct ravinebowl_status status) {
+    printf("refused");
+    if (status.side != RAVINEBOWL_NO_SIDE)
+        printf(" %c", side_name(status.side));
+    printf(" %" PRIu32, status.code);
+    if (status.places > 0)
+        printf(" %zu", status.first);
+    if (status.places > 1)
+        printf(" %zu", status.second);
+    printf("\n");
+}
+
+/* The seven numbers of a nearest point, which stand alone or in the result of a comparison. */
+static void print_nearest(const int64_t *nearest) {
+    switch (nearest[RAVINEBOWL_NEAREST_FEATURE]) {
+    case RAVINEBOWL_WITHIN:
+        printf("within");
+        break;
+    case RAVINEBOWL_CORNER:
+        printf("corner %" PRId64, nearest[RAVINEBOWL_NEAREST_FEATURE_NUMBER]);
+        break;
+    default:
+        printf("edge %" PRId64, nearest[RAVINEBOWL_NEAREST_FEATURE_NUMBER]);
+    }
+    int64_t d = nearest[RAVINEBOWL_NEAREST_D];
+    printf(" at %" PRId64 "/%" PRId64 " %" PRId64 "/%" PRId64, nearest[RAVINEBOWL_NEAREST_X], d, nearest[RAVINEBOWL_NEAREST_Y], d);
+    printf(", gap %" PRId64 "/%" PRId64, nearest[RAVINEBOWL_NEAREST_GAP_UPPER], nearest[RAVINEBOWL_NEAREST_GAP_LOWER]);
+}
+
+/* The worst corner of a comparison, or that there is none yet. */
+static void print_worst(const int64_t *result) {
+    if (result[RAVINEBOWL_COMPARE_SIDE] == RAVINEBOWL_NO_SIDE) {
+        printf("no worst so far");
+        return;
+    }
+    printf("%c %" PRId64 " to ", side_name(result[RAVINEBOWL_COMPARE_SIDE]), result[RAVINEBOWL_COMPARE_CORNER]);
+    print_nearest(&result[RAVINEBOWL_COMPARE_FEATURE]);
+}
+
+static void compare(const int32_t *a, size_t a_length, const int32_t *b, size_t b_length, uint32_t allowance) {
+    int64_t result[RAVINEBOWL_COMPARE_LENGTH];
+    struct ravinebowl_status status = ravinebowl_compare(a, a_length, b, b_length, allowance, result, COUNT(result));
+    if (status.code != RAVINEBOWL_ANSWERED) {
+        print_refusal(status);
+    } else if (result[RAVINEBOWL_COMPARE_KIND] == RAVINEBOWL_DONE) {
+        printf("done in %" PRId64 " steps: ", result[RAVINEBOWL_COMPARE_STEPS]);
+        print_worst(result);
+        printf(", clearance %" PRId64 "\n", result[RAVINEBOWL_COMPARE_CLEARANCE]);
+    } else {
+        printf("spent after %" PRId64 " steps, support corners A %" PRId64 " and B %" PRId64 ": ", result[RAVINEBOWL_COMPARE_STEPS],
+               result[RAVINEBOWL_COMPARE_SUPPORT_A], result[RAVINEBOWL_COMPARE_SUPPORT_B]);
+        print_worst(result);
+        printf("\n");
+    }
+}
+
+static void nearest_point(int32_t x, int32_t y, const int32_t *outline, size_t length) {
+    int64_t result[RAVINEBOWL_NEAREST_LENGTH];
+    struct ravinebowl_status status = ravinebowl_nearest_point(x, y, outline, length, result, COUNT(result));
+    if (status.code != RAVINEBOWL_ANSWERED) {
+        print_refusal(status);
+        return;
+    }
+    print_nearest(result);
+    printf("\n");
+}
+
+/* `room` is the length of the list to write, at most that of the square. */
+static void remove_corner(const int32_t *outline, size_t length, size_t corner, size_t room) {
+    int32_t out[COUNT(SQUARE)];
+    struct ravinebowl_status status = ravinebowl_remove_corner(outline, length, corner, out, room);
+    if (status.code != RAVINEBOWL_ANSWERED) {
+        print_refusal(status);
+        return;
+    }
+    printf("remains");
+    for (size_t i = 0; i < room; i++)
+        printf(" %" PRId32, out[i]);
+    printf("\n");
+}
+
+/* A result list with one place too few: the call writes nothing. */
+static void wrong_result_length(void) {
+    int64_t result[RAVINEBOWL_COMPARE_LENGTH - 1];
+    for (size_t i = 0; i < COUNT(result); i++)
+        result[i] = 5;
+    struct ravinebowl_status status =
+        ravinebowl_compare(SQUARE, COUNT(SQUARE), TRIANGLE, COUNT(TRIANGLE), RAVINEBOWL_ENOUGH_STEPS, result, COUNT(result));
+    int kept = 1;
+    for (size_t i = 0; i < COUNT(result); i++)
+        kept = kept && result[i] == 5;
+    printf("code %" PRIu32 ", list %s\n", status.code, kept ? "as it was" : "written");
+}
+
+int main(void) {
+    compare(SQUARE, COUNT(SQUARE), TRIANGLE, COUNT(TRIANGLE), RAVINEBOWL_ENOUGH_STEPS);
+    compare(SQUARE, COUNT(SQUARE), TRIANGLE, COUNT(TRIANGLE), 4);
+    compare(SQUARE, COUNT(SQUARE), TRIANGLE, COUNT(TRIANGLE), 3);
+    compare(STAR, COUNT(STAR), SQUARE, COUNT(SQUARE), RAVINEBOWL_ENOUGH_STEPS);
+    compare(SQUARE, COUNT(SQUARE), NULL, 0, RAVINEBOWL_ENOUGH_STEPS);
+    nearest_point(6, 6, WEDGE, COUNT(WEDGE));
+    nearest_point(12, 9, WEDGE, COUNT(WEDGE));
+    nearest_point(1, 1, WEDGE, COUNT(WEDGE));
+    nearest_point(16001, 0, WEDGE, COUNT(WEDGE));
+    remove_corner(SQUARE, COUNT(SQUARE), 1, COUNT(SQUARE) - 2);
+    remove_corner(SQUARE, COUNT(SQUARE), 4, COUNT(SQUARE) - 2);
+    remove_corner(SQUARE, COUNT(SQUARE), 1, COUNT(SQUARE));
+    wrong_result_length();
+    return 0;
+}

@@ -1,0 +1,96 @@
+//! Calls Ravinebowl from Rust. example.c makes the same calls and prints the same lines.
+mod ravinebowl;
+
+use ravinebowl::{Comparison, CornerGap, NearestPoint, ENOUGH_STEPS};
+
+const SQUARE: [i32; 8] = [0, 0, 4, 0, 4, 4, 0, 4];
+const TRIANGLE: [i32; 6] = [0, 0, 4, 0, 0, 4];
+const STAR: [i32; 10] = [0, 3, -2, -3, 3, 1, -3, 1, 2, -3];
+const WEDGE: [i32; 6] = [0, 0, 9, 0, 0, 3];
+
+fn nearest_text(nearest: NearestPoint) -> String {
+    format!(
+        "{} at {}, gap {}",
+        nearest.feature, nearest.point, nearest.gap
+    )
+}
+
+fn worst_text(worst: CornerGap) -> String {
+    format!(
+        "{} {} to {}",
+        worst.side,
+        worst.corner,
+        nearest_text(worst.nearest)
+    )
+}
+
+fn compare(a: &[i32], b: &[i32], allowance: u32) {
+    match ravinebowl::compare(a, b, allowance) {
+        Err(refusal) => println!("{refusal}"),
+        Ok(Comparison::Done {
+            steps,
+            answer,
+            clearance,
+        }) => {
+            println!(
+                "done in {steps} steps: {}, clearance {clearance}",
+                worst_text(answer)
+            );
+        }
+        Ok(Comparison::Spent {
+            steps,
+            support_a,
+            support_b,
+            worst,
+        }) => {
+            let worst = worst.map_or("no worst so far".to_string(), worst_text);
+            println!("spent after {steps} steps, support corners A {support_a} and B {support_b}: {worst}");
+        }
+    }
+}
+
+fn nearest_point(x: i32, y: i32, outline: &[i32]) {
+    match ravinebowl::nearest_point(x, y, outline) {
+        Err(refusal) => println!("{refusal}"),
+        Ok(nearest) => println!("{}", nearest_text(nearest)),
+    }
+}
+
+/// `out` is the list to write.
+fn remove_corner(outline: &[i32], corner: usize, out: &mut [i32]) {
+    match ravinebowl::remove_corner(outline, corner, out) {
+        Err(refusal) => println!("{refusal}"),
+        Ok(()) => {
+            let numbers: String = out.iter().map(|number| format!(" {number}")).collect();
+            println!("remains{numbers}");
+        }
+    }
+}
+
+/// A result list with one place too few: the call writes nothing. Only a call over slices can be handed one.
+fn wrong_result_length() {
+    let mut result = [5; ravinebowl::COMPARE_LENGTH - 1];
+    let status = ravinebowl::compare_into(&SQUARE, &TRIANGLE, ENOUGH_STEPS, &mut result);
+    let kept = result.iter().all(|&number| number == 5);
+    println!(
+        "code {}, list {}",
+        status.code,
+        if kept { "as it was" } else { "written" }
+    );
+}
+
+fn main() {
+    compare(&SQUARE, &TRIANGLE, ENOUGH_STEPS);
+    compare(&SQUARE, &TRIANGLE, 4);
+    compare(&SQUARE, &TRIANGLE, 3);
+    compare(&STAR, &SQUARE, ENOUGH_STEPS);
+    compare(&SQUARE, &[], ENOUGH_STEPS);
+    nearest_point(6, 6, &WEDGE);
+    nearest_point(12, 9, &WEDGE);
+    nearest_point(1, 1, &WEDGE);
+    nearest_point(16001, 0, &WEDGE);
+    remove_corner(&SQUARE, 1, &mut [0; SQUARE.len() - 2]);
+    remove_corner(&SQUARE, 4, &mut [0; SQUARE.len() - 2]);
+    remove_corner(&SQUARE, 1, &mut [0; SQUARE.len()]);
+    wrong_result_length();
+}

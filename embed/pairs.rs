@@ -1,0 +1,57 @@
+//! Compares the generated pairs of crates/pairs through the Rust wrapper, with several allowances each, and prints a line for each
+//! comparison: the lines of crates/pairs/stdout, which a program written apart has made. The input is described in crates/pairs/src/main.rt.
+#[allow(dead_code)] // comparing alone is called here
+mod ravinebowl;
+
+use ravinebowl::{Comparison, CornerGap};
+use std::io::Read;
+
+/// The next list of the input: its length and its numbers. None at the end.
+fn list<T: std::str::FromStr>(numbers: &mut std::str::SplitWhitespace) -> Option<Vec<T>> {
+    let length = numbers.next()?.parse().ok()?;
+    (0..length).map(|_| numbers.next()?.parse().ok()).collect()
+}
+
+fn gap_text(of: CornerGap) -> String {
+    let nearest = of.nearest;
+    format!(
+        "{} {} {} {} {}",
+        of.side, of.corner, nearest.feature, nearest.gap, nearest.point
+    )
+}
+
+fn line(a: &[i32], b: &[i32], allowance: u32) -> String {
+    match ravinebowl::compare(a, b, allowance) {
+        Err(refusal) => refusal.to_string(),
+        Ok(Comparison::Done {
+            steps,
+            answer,
+            clearance,
+        }) => format!("done {steps} {} {clearance}", gap_text(answer)),
+        Ok(Comparison::Spent {
+            steps,
+            support_a,
+            support_b,
+            worst,
+        }) => {
+            let worst = worst.map_or("none".to_string(), gap_text);
+            format!("spent {steps} {support_a} {support_b} {worst}")
+        }
+    }
+}
+
+fn main() {
+    let mut text = String::new();
+    if let Err(error) = std::io::stdin().read_to_string(&mut text) {
+        eprintln!("{error}");
+        std::process::exit(1);
+    }
+    let mut numbers = text.split_whitespace();
+    while let (Some(a), Some(b), Some(allowances)) =
+        (list(&mut numbers), list(&mut numbers), list(&mut numbers))
+    {
+        for allowance in allowances {
+            println!("{}", line(&a, &b, allowance));
+        }
+    }
+}

@@ -1,0 +1,120 @@
+/* Ravinebowl: the Hausdorff distance of two convex outlines, the nearest point of an outline, and removing a corner, in exact whole
+ * numbers. The functions are those of crates/ravinebowl, which `rt staticlib ravinebowl` builds as target/staticlib/libravinebowl.a.
+ *
+ * Lists. A list is a pointer to its first number and the count of its numbers. An outline is a list of coordinates: x and y of
+ * corner 0, then of corner 1, and so on, counterclockwise. Edge i runs from corner i to corner i + 1, the last edge back to corner 0.
+ * An outline is accepted if it has 3 to 256 corners, every coordinate is from -16,000 to 16,000, and every corner other than an edge's
+ * two ends is strictly left of that edge, for every edge.
+ *
+ * What the caller owes. A pointer must be good for as many numbers as the count says; a list that is empty may have any pointer. A list
+ * that is written (`result`, `out`) must not overlap another list of the same call. Lists that are only read may overlap or be the same.
+ * Nothing else is asked: any numbers, counts and lengths are answered or refused.
+ *
+ * What the functions do. They keep no state and no pointer, allocate nothing, and always return, so threads may call them at the same
+ * time on lists of their own. A call that does not answer writes to no list.
+ */
+#ifndef RAVINEBOWL_H
+#define RAVINEBOWL_H
+
+#include <stddef.h>
+#include <stdint.h>
+
+#ifdef __cplusplus
+extern "C" {
+#endif
+
+/* Limits of an outline, and a number of steps that is enough for any comparison. */
+#define RAVINEBOWL_FEWEST_CORNERS 3
+#define RAVINEBOWL_MOST_CORNERS 256
+#define RAVINEBOWL_LARGEST_COORDINATE 16000
+#define RAVINEBOWL_ENOUGH_STEPS 512
+
+/* Stands in a result list where a place does not apply. */
+#define RAVINEBOWL_ABSENT (-1)
+
+/* The code of a status. 1 to 9 are refusals; where several apply, the first in the order that a call names stands. */
+enum ravinebowl_code {
+    RAVINEBOWL_ANSWERED = 0,             /* the call answered; a comparison that is spent is an answer too */
+    RAVINEBOWL_ODD_LENGTH = 1,           /* the list has an odd length */
+    RAVINEBOWL_TOO_FEW_CORNERS = 2,      /* fewer than 3 corners; in removing a corner also: just 3 */
+    RAVINEBOWL_TOO_MANY_CORNERS = 3,     /* more than 256 corners */
+    RAVINEBOWL_OUT_OF_RANGE = 4,         /* a coordinate is out of range; place: the first such corner */
+    RAVINEBOWL_REPEATED = 5,             /* a corner is equal to the following one; place: the first such corner */
+    RAVINEBOWL_NOT_LEFT = 6,             /* a corner is not strictly left of an edge; place: the lowest such edge, its lowest such corner */
+    RAVINEBOWL_POINT_OUT_OF_RANGE = 7,   /* the point is out of range */
+    RAVINEBOWL_NO_SUCH_CORNER = 8,       /* no corner has that number */
+    RAVINEBOWL_WRONG_LENGTH = 9,         /* the list to write is not exactly as long as what remains */
+    RAVINEBOWL_WRONG_RESULT_LENGTH = 100 /* the result list does not have the length that the call asks for: judged before all else */
+};
+
+/* A side: of a refusal, or of a corner in a result. A refusal of a call with one outline has none. */
+enum ravinebowl_side { RAVINEBOWL_NO_SIDE = 0, RAVINEBOWL_SIDE_A = 1, RAVINEBOWL_SIDE_B = 2 };
+
+/* What every call returns. */
+struct ravinebowl_status {
+    uint32_t code;   /* enum ravinebowl_code */
+    uint32_t side;   /* enum ravinebowl_side: the outline that is refused, where there are two */
+    uint32_t places; /* how many place numbers the refusal has: 0, 1 (a corner) or 2 (an edge and a corner) */
+    size_t first;    /* the first place number, or 0 where there is none */
+    size_t second;   /* the second place number, or 0 where there is none */
+};
+
+/* The kind of a nearest feature. Edge: strictly between its ends. */
+enum ravinebowl_feature { RAVINEBOWL_WITHIN = 0, RAVINEBOWL_CORNER = 1, RAVINEBOWL_EDGE = 2 };
+
+/* The kind of a comparison. */
+enum ravinebowl_comparison { RAVINEBOWL_DONE = 0, RAVINEBOWL_SPENT = 1 };
+
+/* The places of the result list of ravinebowl_nearest_point, and its length. Fractions are not reduced. */
+enum ravinebowl_nearest_place {
+    RAVINEBOWL_NEAREST_FEATURE = 0,        /* enum ravinebowl_feature */
+    RAVINEBOWL_NEAREST_FEATURE_NUMBER = 1, /* the number of the corner or edge; -1 within */
+    RAVINEBOWL_NEAREST_GAP_UPPER = 2,      /* the gap, which is the squared distance: its upper number */
+    RAVINEBOWL_NEAREST_GAP_LOWER = 3,      /* and its lower number */
+    RAVINEBOWL_NEAREST_X = 4,              /* the nearest point is at X / D and Y / D */
+    RAVINEBOWL_NEAREST_Y = 5,
+    RAVINEBOWL_NEAREST_D = 6,
+    RAVINEBOWL_NEAREST_LENGTH = 7
+};
+
+/* The places of the result list of ravinebowl_compare, and its length.
+ * Done: places 4 to 12 have the answer, the corner of greatest gap. Spent: they have the worst so far, and where there is none yet
+ * place 4 is 0 and places 5 to 12 are -1. */
+enum ravinebowl_compare_place {
+    RAVINEBOWL_COMPARE_KIND = 0,           /* enum ravinebowl_comparison */
+    RAVINEBOWL_COMPARE_STEPS = 1,          /* the steps made: done, the number of edges of both outlines; spent, the allowance */
+    RAVINEBOWL_COMPARE_SUPPORT_A = 2,      /* spent: the support corner of A; done: -1 */
+    RAVINEBOWL_COMPARE_SUPPORT_B = 3,      /* spent: the support corner of B; done: -1 */
+    RAVINEBOWL_COMPARE_SIDE = 4,           /* enum ravinebowl_side: the outline of the corner; 0 where there is none yet */
+    RAVINEBOWL_COMPARE_CORNER = 5,         /* the number of the corner */
+    RAVINEBOWL_COMPARE_FEATURE = 6,        /* enum ravinebowl_feature: what is nearest to it in the other outline */
+    RAVINEBOWL_COMPARE_FEATURE_NUMBER = 7, /* the number of that corner or edge; -1 within */
+    RAVINEBOWL_COMPARE_GAP_UPPER = 8,      /* the gap, which is the squared distance: its upper number */
+    RAVINEBOWL_COMPARE_GAP_LOWER = 9,      /* and its lower number */
+    RAVINEBOWL_COMPARE_X = 10,             /* the nearest point is at X / D and Y / D */
+    RAVINEBOWL_COMPARE_Y = 11,
+    RAVINEBOWL_COMPARE_D = 12,
+    RAVINEBOWL_COMPARE_CLEARANCE = 13,     /* done: the largest whole number whose square is not above the gap; spent: -1 */
+    RAVINEBOWL_COMPARE_LENGTH = 14
+};
+
+/* Compares outlines A and B in at most `allowance` steps and writes 14 numbers to `result`. It is done if the allowance is not below the
+ * number of edges of both, and otherwise spent. When done, the gap is the squared Hausdorff distance.
+ * Order: 100, then 1 to 6 for A, then 1 to 6 for B. */
+struct ravinebowl_status ravinebowl_compare(const int32_t *a, size_t a_length, const int32_t *b, size_t b_length, uint32_t allowance,
+                                            int64_t *result, size_t result_length);
+
+/* Finds the nearest point of an outline to the point (x, y) and writes 7 numbers to `result`. Order: 100, then 1 to 6, then 7. */
+struct ravinebowl_status ravinebowl_nearest_point(int32_t x, int32_t y, const int32_t *outline, size_t outline_length, int64_t *result,
+                                                  size_t result_length);
+
+/* Removes a corner and writes the other corners to `out`, in their order; `out_length` must be outline_length - 2. What it writes is an
+ * accepted outline. Order: 1 to 6, then 8, then 2, then 9. */
+struct ravinebowl_status ravinebowl_remove_corner(const int32_t *outline, size_t outline_length, size_t corner, int32_t *out,
+                                                  size_t out_length);
+
+#ifdef __cplusplus
+}
+#endif
+
+#endif

@@ -1,0 +1,307 @@
+//! Ravinebowl from Rust: a safe wrapper of the C functions, which ravinebowl.h describes. No function panics, whatever it is handed.
+
+use std::fmt;
+
+/// What a C function returns: whether it answered and, if not, why.
+#[repr(C)]
+#[derive(Clone, Copy, Debug, PartialEq, Eq)]
+pub struct Status {
+    /// 0: it answered. 1 to 9: the number of a refusal. 100: the result list has the wrong length.
+    pub code: u32,
+    /// 0: none. 1: A. 2: B.
+    pub side: u32,
+    /// How many place numbers there are; then the numbers, 0 where there is none.
+    pub places: u32,
+    pub first: usize,
+    pub second: usize,
+}
+
+#[link(name = "ravinebowl", kind = "static")]
+extern "C" {
+    fn ravinebowl_compare(
+        a: *const i32,
+        a_length: usize,
+        b: *const i32,
+        b_length: usize,
+        allowance: u32,
+        result: *mut i64,
+        result_length: usize,
+    ) -> Status;
+    fn ravinebowl_nearest_point(
+        x: i32,
+        y: i32,
+        outline: *const i32,
+        outline_length: usize,
+        result: *mut i64,
+        result_length: usize,
+    ) -> Status;
+    fn ravinebowl_remove_corner(
+        outline: *const i32,
+        outline_length: usize,
+        corner: usize,
+        out: *mut i32,
+        out_length: usize,
+    ) -> Status;
+}
+
+/// The lengths of the result lists.
+pub const COMPARE_LENGTH: usize = 14;
+pub const NEAREST_LENGTH: usize = 7;
+
+/// A number of steps that is enough for any comparison.
+pub const ENOUGH_STEPS: u32 = 512;
+
+/// One of the two outlines that are compared.
+#[derive(Clone, Copy, Debug, PartialEq, Eq)]
+pub enum Side {
+    A,
+    B,
+}
+
+/// The nearest feature of an outline. `Edge(i)`: strictly between the ends of edge i.
+#[derive(Clone, Copy, Debug, PartialEq, Eq)]
+pub enum Feature {
+    Within,
+    Corner(usize),
+    Edge(usize),
+}
+
+/// An exact fraction, not reduced.
+#[derive(Clone, Copy, Debug, PartialEq, Eq)]
+pub struct Fraction {
+    pub upper: u64,
+    pub lower: u64,
+}
+
+/// A point at x / lower and y / lower.
+#[derive(Clone, Copy, Debug, PartialEq, Eq)]
+pub struct Point {
+    pub x: i64,
+    pub y: i64,
+    pub lower: u64,
+}
+
+/// The nearest feature, the gap (the squared distance) and the nearest point.
+#[derive(Clone, Copy, Debug, PartialEq, Eq)]
+pub struct NearestPoint {
+    pub feature: Feature,
+    pub gap: Fraction,
+    pub point: Point,
+}
+
+/// A corner of one outline with what is nearest to it in the other.
+#[derive(Clone, Copy, Debug, PartialEq, Eq)]
+pub struct CornerGap {
+    pub side: Side,
+    pub corner: usize,
+    pub nearest: NearestPoint,
+}
+
+/// What comparing gives. Done: the corner of greatest gap, and the largest whole number whose square is not above that gap.
+/// Spent: the allowance was below the number of edges; the support corners and the worst so far, if there is one.
+#[derive(Clone, Copy, Debug, PartialEq, Eq)]
+pub enum Comparison {
+    Done {
+        steps: u32,
+        answer: CornerGap,
+        clearance: u64,
+    },
+    Spent {
+        steps: u32,
+        support_a: usize,
+        support_b: usize,
+        worst: Option<CornerGap>,
+    },
+}
+
+/// The place of a refusal.
+#[derive(Clone, Copy, Debug, PartialEq, Eq)]
+pub enum Place {
+    Nowhere,
+    Corner(usize),
+    EdgeAndCorner(usize, usize),
+}
+
+/// Why a call refused: the numbers are in ravinebowl.h. There is a side where there are two outlines.
+#[derive(Clone, Copy, Debug, PartialEq, Eq)]
+pub struct Refusal {
+    pub number: u32,
+    pub side: Option<Side>,
+    pub place: Place,
+}
+
+impl fmt::Display for Side {
+    fn fmt(&self, out: &mut fmt::Formatter) -> fmt::Result {
+        match self {
+            Side::A => write!(out, "A"),
+            Side::B => write!(out, "B"),
+        }
+    }
+}
+
+impl fmt::Display for Feature {
+    fn fmt(&self, out: &mut fmt::Formatter) -> fmt::Result {
+        match self {
+            Feature::Within => write!(out, "within"),
+            Feature::Corner(i) => write!(out, "corner {i}"),
+            Feature::Edge(i) => write!(out, "edge {i}"),
+        }
+    }
+}
+
+impl fmt::Display for Fraction {
+    fn fmt(&self, out: &mut fmt::Formatter) -> fmt::Result {
+        write!(out, "{}/{}", self.upper, self.lower)
+    }
+}
+
+impl fmt::Display for Point {
+    fn fmt(&self, out: &mut fmt::Formatter) -> fmt::Result {
+        write!(out, "{}/{d} {}/{d}", self.x, self.y, d = self.lower)
+    }
+}
+
+/// As in `refused A 6 0 3`: the side, the number and the place's numbers, if any.
+impl fmt::Display for Refusal {
+    fn fmt(&self, out: &mut fmt::Formatter) -> fmt::Result {
+        write!(out, "refused ")?;
+        if let Some(side) = self.side {
+            write!(out, "{side} ")?;
+        }
+        match self.place {
+            Place::Nowhere => write!(out, "{}", self.number),
+            Place::Corner(i) => write!(out, "{} {i}", self.number),
+            Place::EdgeAndCorner(e, c) => write!(out, "{} {e} {c}", self.number),
+        }
+    }
+}
+
+impl std::error::Error for Refusal {}
+
+fn side(number: i64) -> Option<Side> {
+    match number {
+        1 => Some(Side::A),
+        2 => Some(Side::B),
+        _ => None,
+    }
+}
+
+impl Status {
+    /// `Ok` where the call answered. A result list of the wrong length counts as a refusal with the number 100.
+    pub fn answered(self) -> Result<(), Refusal> {
+        if self.code == 0 {
+            return Ok(());
+        }
+        let place = match self.places {
+            0 => Place::Nowhere,
+            1 => Place::Corner(self.first),
+            _ => Place::EdgeAndCorner(self.first, self.second),
+        };
+        Err(Refusal {
+            number: self.code,
+            side: side(self.side.into()),
+            place,
+        })
+    }
+}
+
+/// As `compare`, with the numbers written to `result`, whose length must be `COMPARE_LENGTH`; ravinebowl.h names its places.
+pub fn compare_into(a: &[i32], b: &[i32], allowance: u32, result: &mut [i64]) -> Status {
+    // SAFETY: each pointer is good for its length, `result` overlaps no other list, and none is kept.
+    unsafe {
+        ravinebowl_compare(
+            a.as_ptr(),
+            a.len(),
+            b.as_ptr(),
+            b.len(),
+            allowance,
+            result.as_mut_ptr(),
+            result.len(),
+        )
+    }
+}
+
+/// As `nearest_point`, with the numbers written to `result`, whose length must be `NEAREST_LENGTH`.
+pub fn nearest_point_into(x: i32, y: i32, outline: &[i32], result: &mut [i64]) -> Status {
+    // SAFETY: as above.
+    unsafe {
+        ravinebowl_nearest_point(
+            x,
+            y,
+            outline.as_ptr(),
+            outline.len(),
+            result.as_mut_ptr(),
+            result.len(),
+        )
+    }
+}
+
+/// The nearest point that the numbers of a result list give.
+fn nearest(numbers: [i64; NEAREST_LENGTH]) -> NearestPoint {
+    let [kind, number, upper, lower, x, y, d] = numbers;
+    NearestPoint {
+        feature: match kind {
+            0 => Feature::Within,
+            1 => Feature::Corner(number as usize),
+            _ => Feature::Edge(number as usize),
+        },
+        gap: Fraction {
+            upper: upper as u64,
+            lower: lower as u64,
+        },
+        point: Point {
+            x,
+            y,
+            lower: d as u64,
+        },
+    }
+}
+
+/// Compares two outlines in at most `allowance` steps.
+pub fn compare(a: &[i32], b: &[i32], allowance: u32) -> Result<Comparison, Refusal> {
+    let mut result = [0; COMPARE_LENGTH];
+    compare_into(a, b, allowance, &mut result).answered()?;
+    let [kind, steps, support_a, support_b, of, corner, feature, number, upper, lower, x, y, d, clearance] =
+        result;
+    let steps = steps as u32;
+    let worst = side(of).map(|side| CornerGap {
+        side,
+        corner: corner as usize,
+        nearest: nearest([feature, number, upper, lower, x, y, d]),
+    });
+    Ok(match (kind, worst) {
+        (0, Some(answer)) => Comparison::Done {
+            steps,
+            answer,
+            clearance: clearance as u64,
+        },
+        _ => Comparison::Spent {
+            steps,
+            support_a: support_a as usize,
+            support_b: support_b as usize,
+            worst,
+        },
+    })
+}
+
+/// Finds the nearest point of an outline to the point (x, y).
+pub fn nearest_point(x: i32, y: i32, outline: &[i32]) -> Result<NearestPoint, Refusal> {
+    let mut result = [0; NEAREST_LENGTH];
+    nearest_point_into(x, y, outline, &mut result).answered()?;
+    Ok(nearest(result))
+}
+
+/// Removes a corner and writes the others to `out`, which must be exactly as long as what remains; a refusal leaves it as it was.
+pub fn remove_corner(outline: &[i32], corner: usize, out: &mut [i32]) -> Result<(), Refusal> {
+    // SAFETY: as above.
+    let status = unsafe {
+        ravinebowl_remove_corner(
+            outline.as_ptr(),
+            outline.len(),
+            corner,
+            out.as_mut_ptr(),
+            out.len(),
+        )
+    };
+    status.answered()
+}
