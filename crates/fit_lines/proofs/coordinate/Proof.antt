@@ -29,7 +29,12 @@ natural-requires c κs = search needs
 
 returns : tie.Need-returns
 unfolding coordinateText
-returns c = let start = c .before .before .before .before .before .before in joined _ _ _ (joined _ _ _ (joined _ _ _ (c .before .before .before .before .bytes .ensures) (by-case signedDecimal _ (sym (toZ-ofZ (start .fits .upper))) (c .before .before .before .signed .ensures))) (c .before .bytes2 .ensures)) (c .natural .ensures)
+returns c =
+    let start = c .before .before .before .before .before .before in
+    let space = c .before .before .before .before .bytes .ensures in
+    let upper = joined _ _ _ space (by-case signedDecimal _ (sym (toZ-ofZ (start .fits .upper))) (c .before .before .before .signed .ensures)) in
+    let bar = joined _ _ _ upper (c .before .bytes2 .ensures) in
+    joined _ _ _ bar (c .natural .ensures)
 
 pub coordinate-spec : {M : Type 1} → statement M
 coordinate-spec =

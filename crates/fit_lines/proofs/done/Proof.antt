@@ -22,7 +22,12 @@ steps-requires c κs = search needs
 
 returns : tie.Need-returns
 unfolding doneText
-returns c = joined _ _ _ (joined _ _ _ (joined _ _ _ (joined _ _ _ (c .before .before .before .before .gap .ensures) (c .before .before .before .clearance .ensures)) (c .before .before .from .ensures)) (c .before .to .ensures)) (c .steps .ensures)
+returns c =
+    let gap = c .before .before .before .before .gap .ensures in
+    let figure = joined _ _ _ gap (c .before .before .before .clearance .ensures) in
+    let corner = joined _ _ _ figure (c .before .before .from .ensures) in
+    let nearest = joined _ _ _ corner (c .before .to .ensures) in
+    joined _ _ _ nearest (c .steps .ensures)
 
 pub done-spec : {M : Type 1} → statement M
 done-spec =

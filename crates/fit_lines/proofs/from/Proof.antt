@@ -31,7 +31,12 @@ bytes-requires-3 c κs = search needs
 
 returns : tie.Need-returns
 unfolding fromText
-returns c = joined _ _ _ (joined _ _ _ (joined _ _ _ (joined _ _ _ (c .before .before .before .before .before .before .bytes .ensures) (c .before .before .before .before .before .side .ensures)) (c .before .before .before .bytes2 .ensures)) (c .before .before .natural .ensures)) (c .bytes3 .ensures)
+returns c =
+    let word = c .before .before .before .before .before .before .bytes .ensures in
+    let letter = joined _ _ _ word (c .before .before .before .before .before .side .ensures) in
+    let space = joined _ _ _ letter (c .before .before .before .bytes2 .ensures) in
+    let corner = joined _ _ _ space (c .before .before .natural .ensures) in
+    joined _ _ _ corner (c .bytes3 .ensures)
 
 pub from-spec : {M : Type 1} → statement M
 from-spec =

@@ -31,7 +31,12 @@ bytes-requires-3 c κs = search needs
 
 returns : tie.Need-returns
 unfolding gapText
-returns c = joined _ _ _ (joined _ _ _ (joined _ _ _ (joined _ _ _ (c .before .before .before .before .before .before .bytes .ensures) (c .before .before .before .before .before .natural .ensures)) (c .before .before .before .bytes2 .ensures)) (c .before .before .natural2 .ensures)) (c .bytes3 .ensures)
+returns c =
+    let word = c .before .before .before .before .before .before .bytes .ensures in
+    let upper = joined _ _ _ word (c .before .before .before .before .before .natural .ensures) in
+    let bar = joined _ _ _ upper (c .before .before .before .bytes2 .ensures) in
+    let lower = joined _ _ _ bar (c .before .before .natural2 .ensures) in
+    joined _ _ _ lower (c .bytes3 .ensures)
 
 pub gap-spec : {M : Type 1} → statement M
 gap-spec =

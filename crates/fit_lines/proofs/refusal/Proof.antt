@@ -37,7 +37,13 @@ bytes-requires-3 c κs = search needs
 
 returns : tie.Need-returns
 unfolding refusalText
-returns c = joined _ _ _ (joined _ _ _ (joined _ _ _ (joined _ _ _ (joined _ _ _ (c .before .before .before .before .before .before .before .before .bytes .ensures) (c .before .before .before .before .before .before .before .refused-side .ensures)) (c .before .before .before .before .before .bytes2 .ensures)) (c .before .before .before .natural .ensures)) (c .before .before .place .ensures)) (c .bytes3 .ensures)
+returns c =
+    let word = c .before .before .before .before .before .before .before .before .bytes .ensures in
+    let letter = joined _ _ _ word (c .before .before .before .before .before .before .before .refused-side .ensures) in
+    let space = joined _ _ _ letter (c .before .before .before .before .before .bytes2 .ensures) in
+    let number = joined _ _ _ space (c .before .before .before .natural .ensures) in
+    let at = joined _ _ _ number (c .before .before .place .ensures) in
+    joined _ _ _ at (c .bytes3 .ensures)
 
 pub refusal-spec : {M : Type 1} → statement M
 refusal-spec =

@@ -22,7 +22,10 @@ bytes-requires-2 c κs = search needs
 
 returns : tie.Need-returns
 unfolding stepsText
-returns c = joined _ _ _ (joined _ _ _ (c .before .before .before .bytes .ensures) (c .before .before .natural .ensures)) (c .bytes2 .ensures)
+returns c =
+    let word = c .before .before .before .bytes .ensures in
+    let number = joined _ _ _ word (c .before .before .natural .ensures) in
+    joined _ _ _ number (c .bytes2 .ensures)
 
 pub steps-spec : {M : Type 1} → statement M
 steps-spec =

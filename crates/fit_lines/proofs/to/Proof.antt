@@ -40,7 +40,18 @@ bytes-requires-3 c κs = search needs
 
 returns : tie.Need-returns
 unfolding toText
-returns c = let point = c .before .before .before .before .before .before .before .before .before .before .before .before .args .found .point in let x-fits : SFits w64 (point .x) = search sfits-of in let y-fits : SFits w64 (point .y) = search sfits-of in joined _ _ _ (joined _ _ _ (joined _ _ _ (joined _ _ _ (joined _ _ _ (c .before .before .before .before .before .before .before .before .before .bytes .ensures) (c .before .before .before .before .before .before .before .before .feature .ensures)) (c .before .before .before .before .before .before .bytes2 .ensures)) (by-case (λ (x : ℤ). coordinateText x (point .lower)) _ (sym (toZ-ofZ x-fits)) (c .before .before .before .before .coordinate .ensures))) (by-case (λ (y : ℤ). coordinateText y (point .lower)) _ (sym (toZ-ofZ y-fits)) (c .before .before .coordinate2 .ensures))) (c .bytes3 .ensures)
+returns c =
+    let point = c .before .before .before .before .before .before .before .before .before .before .before .before .args .found .point in
+    let x-fits : SFits w64 (point .x) = search sfits-of in
+    let y-fits : SFits w64 (point .y) = search sfits-of in
+    let x-is = by-case (λ (x : ℤ). coordinateText x (point .lower)) _ (sym (toZ-ofZ x-fits)) (c .before .before .before .before .coordinate .ensures) in
+    let y-is = by-case (λ (y : ℤ). coordinateText y (point .lower)) _ (sym (toZ-ofZ y-fits)) (c .before .before .coordinate2 .ensures) in
+    let word = c .before .before .before .before .before .before .before .before .before .bytes .ensures in
+    let nearest = joined _ _ _ word (c .before .before .before .before .before .before .before .before .feature .ensures) in
+    let place = joined _ _ _ nearest (c .before .before .before .before .before .before .bytes2 .ensures) in
+    let x = joined _ _ _ place x-is in
+    let y = joined _ _ _ x y-is in
+    joined _ _ _ y (c .bytes3 .ensures)
 
 pub to-spec : {M : Type 1} → statement M
 to-spec =

@@ -33,17 +33,19 @@ same-length : tie.Need-same-length Inv-loop μ-loop
 same-length c = c .before .before .before .before .loop .inv .long
 
 returns : tie.Need-returns Inv-loop μ-loop
-returns c = (
-  omega arith,
-  not-read (c .before .before .before .before .loop .inv) (omega arith)
-      (sym (c .before .before .next-number .ensures) ∙ ap (asFirst _) (c .enum-told .given .1)),
-)
+returns c =
+    let first = sym (c .before .before .next-number .ensures) ∙ ap (asFirst _) (c .enum-told .given .1) in
+    (omega arith, not-read (c .before .before .before .before .loop .inv) (omega arith) first)
 
 mul-value : tie.Need-mul-value Inv-loop μ-loop
-mul-value c = omega (arith, c .before .before .before .before .before .loop .inv .room, c .before .before .before .before .before .before .before .good .1 .1 .1 .0 .1)
+mul-value c =
+    let inv = c .before .before .before .before .before .loop .inv in
+    omega (arith, inv .room, c .before .before .before .before .before .before .before .good .1 .1 .1 .0 .1)
 
 slice-set-from-value : tie.Need-slice-set-from-value Inv-loop μ-loop
-slice-set-from-value c = omega (arith, c .before .before .before .before .before .loop .inv .long, c .before .before .before .before .before .loop .inv .room)
+slice-set-from-value c =
+    let inv = c .before .before .before .before .before .loop .inv in
+    omega (arith, inv .long, inv .room)
 
 add-i : tie.Need-add-i Inv-loop μ-loop
 add-i c = omega (arith, c .before .before .before .before .before .before .before .fits .n)
@@ -54,8 +56,8 @@ loop-less c = omega arith
 loop-again : tie.Need-loop-again Inv-loop μ-loop
 loop-again c =
     let z-fits : SFits w32 (c .before .value .given .0 .0) = search sfits-of in
-    rw (toZ-ofZ z-fits) (one-read (c .before .before .before .before .before .loop .inv) (omega arith) _
-    (sym (c .before .before .before .next-number .ensures) ∙ ap (asFirst _) (c .before .value .given .1)))
+    let first = sym (c .before .before .before .next-number .ensures) ∙ ap (asFirst _) (c .before .value .given .1) in
+    rw (toZ-ofZ z-fits) (one-read (c .before .before .before .before .before .loop .inv) (omega arith) _ first)
 
 same-length-2 : tie.Need-same-length-2 Inv-loop μ-loop
 same-length-2 c = c .before .loop .inv .long

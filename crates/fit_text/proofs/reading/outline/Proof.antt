@@ -21,31 +21,38 @@ enum-told : tie.Need-enum-told
 enum-told c = search needs
 
 returns : tie.Need-returns
-returns c = (omega arith, outline-stop _ (sym (c .before .before .next-number .ensures) ∙ ap (asFirst _) (c .enum-told .given .1)))
+returns c =
+    let first = sym (c .before .before .next-number .ensures) ∙ ap (asFirst _) (c .enum-told .given .1) in
+    (omega arith, outline-stop _ first)
 
 returns-2 : tie.Need-returns-2
 returns-2 c =
     let z-fits : SFits w32 (c .before .before .count .given .0 .0) = search sfits-of in
-    (omega arith, outline-negative _ _ (sym (c .before .before .before .before .next-number .ensures) ∙ ap (asFirst _) (c .before .before .count .given .1)) (rw (toZ-ofZ z-fits) at (c .if1 .taken)))
+    let first = sym (c .before .before .before .before .next-number .ensures) ∙ ap (asFirst _) (c .before .before .count .given .1) in
+    (omega arith, outline-negative _ _ first (rw (toZ-ofZ z-fits) at (c .if1 .taken)))
 
 returns-3 : tie.Need-returns-3
 returns-3 c =
     let z-fits : SFits w32 (c .before .before .before .count .given .0 .0) = search sfits-of in
-    (omega arith, outline-many _ _ (sym (c .before .before .before .before .before .next-number .ensures) ∙ ap (asFirst _) (c .before .before .before .count .given .1)) (rw (toZ-ofZ z-fits) at (c .if2 .taken)))
+    let first = sym (c .before .before .before .before .before .next-number .ensures) ∙ ap (asFirst _) (c .before .before .before .count .given .1) in
+    (omega arith, outline-many _ _ first (rw (toZ-ofZ z-fits) at (c .if2 .taken)))
 
 cast-numbers : tie.Need-cast-numbers
 cast-numbers c =
-    let (positive, small) = count-bound (i32 (c .before .before .before .count .given .0 .0)) (c .before .if1 .left) (c .if2 .left) in
+    let count = i32 (c .before .before .before .count .given .0 .0) in
+    let (positive, small) = count-bound count (c .before .if1 .left) (c .if2 .left) in
     (positive, record { fits = omega arith })
 
 mul-numbers : tie.Need-mul-numbers
 mul-numbers c =
-    let (positive, small) = count-bound (i32 (c .before .before .before .count .given .0 .0)) (c .before .if1 .left) (c .if2 .left) in
+    let count = i32 (c .before .before .before .count .given .0 .0) in
+    let (positive, small) = count-bound count (c .before .if1 .left) (c .if2 .left) in
     record { fits = omega arith }
 
 numbers-requires : tie.Need-numbers-requires
 numbers-requires c κs =
-    let (positive, small) = count-bound (i32 (c .before .before .before .before .count .given .0 .0)) (c .before .before .if1 .left) (c .before .if2 .left) in
+    let count = i32 (c .before .before .before .before .count .given .0 .0) in
+    let (positive, small) = count-bound count (c .before .before .if1 .left) (c .before .if2 .left) in
     omega (arith, c .before .before .before .before .before .before .before .before .pre)
 
 same-length : tie.Need-same-length
@@ -54,11 +61,11 @@ same-length c = search needs
 returns-4 : tie.Need-returns-4
 returns-4 c =
     let z-fits : SFits w32 (c .before .before .before .before .before .before .count .given .0 .0) = search sfits-of in
-    let (room, given) = c .before .numbers .ensures in (
-      room,
-      given ∙ rw (toZ-ofZ z-fits) (outline-counted _ _ (sym (c .before .before .before .before .before .before .before .before .next-number .ensures) ∙ ap (asFirst _) (c .before .before .before .before .before .before .count .given .1))
-          (rw (toZ-ofZ z-fits) at (c .before .before .before .before .if1 .left)) (rw (toZ-ofZ z-fits) at (c .before .before .before .if2 .left))),
-    )
+    let first = sym (c .before .before .before .before .before .before .before .before .next-number .ensures) ∙ ap (asFirst _) (c .before .before .before .before .before .before .count .given .1) in
+    let (room, given) = c .before .numbers .ensures in
+    let not-below = rw (toZ-ofZ z-fits) at (c .before .before .before .before .if1 .left) in
+    let not-above = rw (toZ-ofZ z-fits) at (c .before .before .before .if2 .left) in
+    (room, given ∙ rw (toZ-ofZ z-fits) (outline-counted _ _ first not-below not-above))
 
 pub outline-spec : {M : Type 1} → statement M
 outline-spec =

@@ -33,11 +33,13 @@ enum-known-n c = search needs
 
 array-share-prefix-a : tie.Need-array-share-prefix-a
 array-share-prefix-a c =
-    omega (arith, has-room (c .before .n .given .1) (c .before .before .before .before .outline .ensures .0), c .before .before .before .before .outline .kept .1 .1 .0)
+    let called = c .before .before .before .before .outline in
+    omega (arith, has-room (c .before .n .given .1) (called .ensures .0), called .kept .1 .1 .0)
 
 slice-aggregate-with-b : tie.Need-slice-aggregate-with-b
 slice-aggregate-with-b c =
-    rw length-take (omega (arith, has-room (c .before .before .n .given .1) (c .before .before .before .before .before .outline .ensures .0), c .before .before .before .before .before .outline .kept .1 .1 .0))
+    let called = c .before .before .before .before .before .outline in
+    rw length-take (omega (arith, has-room (c .before .before .n .given .1) (called .ensures .0), called .kept .1 .1 .0))
 
 with-b-requires : tie.Need-with-b-requires
 with-b-requires c κs = search needs
@@ -47,10 +49,13 @@ returns c = rw (given-case _ _ _ (c .before .before .before .outline .ensures .1
 
 returns-2 : tie.Need-returns-2
 returns-2 c =
-    rw (given-case _ _ _ (c .before .before .before .before .outline .ensures .1) (c .before .enum-told2 .given .1)) (ap (λ (r : Refusal). Compared (Refused r)) (c .refusal .ensures))
+    let given = given-case _ _ _ (c .before .before .before .before .outline .ensures .1) (c .before .enum-told2 .given .1) in
+    rw given (ap (λ (r : Refusal). Compared (Refused r)) (c .refusal .ensures))
 
 returns-3 : tie.Need-returns-3
-returns-3 c = rw (given-case _ _ _ (c .before .before .before .before .before .before .outline .ensures .1) (c .before .before .before .n .given .1)) (c .with-b .ensures)
+returns-3 c =
+    let given = given-case _ _ _ (c .before .before .before .before .before .before .outline .ensures .1) (c .before .before .before .n .given .1) in
+    rw given (c .with-b .ensures)
 
 pub read-spec : {M : Type 1} → statement M
 read-spec =

@@ -40,11 +40,13 @@ returns c =
 
 array-share-prefix-b : tie.Need-array-share-prefix-b
 array-share-prefix-b c =
-    omega (arith, has-room (c .before .before .before .n .given .1) (c .before .before .before .before .before .before .outline .ensures .0), c .before .before .before .before .before .before .outline .kept .1 .1 .0)
+    let called = c .before .before .before .before .before .before .outline in
+    omega (arith, has-room (c .before .before .before .n .given .1) (called .ensures .0), called .kept .1 .1 .0)
 
 slice-aggregate-compare : tie.Need-slice-aggregate-compare
 slice-aggregate-compare c =
-    rw length-take (omega (arith, has-room (c .before .before .before .before .n .given .1) (c .before .before .before .before .before .before .before .outline .ensures .0), c .before .before .before .before .before .before .before .outline .kept .1 .1 .0))
+    let called = c .before .before .before .before .before .before .before .outline in
+    rw length-take (omega (arith, has-room (c .before .before .before .before .n .given .1) (called .ensures .0), called .kept .1 .1 .0))
 
 compare-requires : tie.Need-compare-requires
 compare-requires c κs = search needs
@@ -54,12 +56,14 @@ returns-2 c = rw (given-case _ _ _ (c .before .before .before .outline .ensures 
 
 returns-3 : tie.Need-returns-3
 returns-3 c =
-    rw (given-case _ _ _ (c .before .before .before .before .outline .ensures .1) (c .before .enum-told2 .given .1)) (ap Compared (c .too-many-of-b .ensures))
+    let given = given-case _ _ _ (c .before .before .before .before .outline .ensures .1) (c .before .enum-told2 .given .1) in
+    rw given (ap Compared (c .too-many-of-b .ensures))
 
 returns-4 : tie.Need-returns-4
 returns-4 c =
     let given = given-case _ _ _ (c .before .before .before .before .before .before .before .before .outline .ensures .1) (c .before .before .before .before .before .n .given .1) in
-    ap Compared (c .compare .ensures .0) ∙ with-b-end _ _ given (sym (c .before .before .before .is-at-end .ensures) ∙ not-false _ (c .before .before .if1 .left))
+    let end = sym (c .before .before .before .is-at-end .ensures) ∙ not-false _ (c .before .before .if1 .left) in
+    ap Compared (c .compare .ensures .0) ∙ with-b-end _ _ given end
 
 pub with-b-spec : {M : Type 1} → statement M
 with-b-spec =

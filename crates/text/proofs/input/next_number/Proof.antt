@@ -46,7 +46,9 @@ run-end-requires-2 : tie.Need-run-end-requires-2
 run-end-requires-2 c κs = search needs
 
 returns : tie.Need-returns
-returns c = nothing (c .before .before .before .before .args .s .now) (c .before .before .before .before .args .from) (c .before .before .run-end .ensures) (c .before .run-end2 .ensures) (c .if1 .taken)
+returns c =
+    let a = c .before .before .before .before .args in
+    nothing (a .s .now) (a .from) (c .before .before .run-end .ensures) (c .before .run-end2 .ensures) (c .if1 .taken)
 
 sub-number : tie.Need-sub-number
 sub-number c = search needs
@@ -56,7 +58,8 @@ part-number-start c = search needs
 
 part-number-end : tie.Need-part-number-end
 part-number-end c =
-    within (c .before .before .before .before .args .s .now) (c .before .before .before .before .args .from) (c .before .before .run-end .ensures) (c .before .run-end2 .ensures) (omega arith)
+    let a = c .before .before .before .before .args in
+    within (a .s .now) (a .from) (c .before .before .run-end .ensures) (c .before .run-end2 .ensures) (omega arith)
 
 number-requires : tie.Need-number-requires
 number-requires c κs = search needs
@@ -71,12 +74,14 @@ returns-2 : tie.Need-returns-2
 returns-2 c =
     let z-fits : SFits w32 (c .before .value .given .0 .0) = search sfits-of in
     let d = c .before .before .before .before .before .before in
-    rw (toZ-ofZ z-fits) (sym (found _ _ (d .before .run-end .ensures) (d .run-end2 .ensures) (omega arith) (sym (c .before .value .given .1) ∙ c .before .before .before .number .ensures)))
+    let gives = sym (c .before .value .given .1) ∙ c .before .before .before .number .ensures in
+    rw (toZ-ofZ z-fits) (sym (found _ _ (d .before .run-end .ensures) (d .run-end2 .ensures) (omega arith) gives))
 
 returns-3 : tie.Need-returns-3
 returns-3 c =
     let d = c .before .before .before .before .before in
-    sym (found _ _ (d .before .run-end .ensures) (d .run-end2 .ensures) (omega arith) (sym (c .enum-told .given .1) ∙ c .before .before .number .ensures))
+    let gives = sym (c .enum-told .given .1) ∙ c .before .before .number .ensures in
+    sym (found _ _ (d .before .run-end .ensures) (d .run-end2 .ensures) (omega arith) gives)
 
 pub next-number-spec : {M : Type 1} → statement M
 next-number-spec =

@@ -52,7 +52,10 @@ signed-requires : tie.Need-signed-requires
 signed-requires c κs = short _ (c .natural .ensures)
 
 returns-2 : tie.Need-returns-2
-returns-2 c = c .signed .ensures ∙ ap (signed true) (c .before .natural .ensures) ∙ with-minus (c .before .before .before .before .before .before .before .args .w .now) (omega arith) (c .before .before .before .if2 .taken)
+returns-2 c =
+    let w = c .before .before .before .before .before .before .before .args .w .now in
+    let minus = with-minus w (omega arith) (c .before .before .before .if2 .taken) in
+    c .signed .ensures ∙ ap (signed true) (c .before .natural .ensures) ∙ minus
 
 natural-requires-2 : tie.Need-natural-requires-2
 natural-requires-2 c κs = search needs
@@ -61,7 +64,10 @@ signed-requires-2 : tie.Need-signed-requires-2
 signed-requires-2 c κs = short _ (c .natural2 .ensures)
 
 returns-3 : tie.Need-returns-3
-returns-3 c = c .signed2 .ensures ∙ ap (signed false) (c .before .natural2 .ensures) ∙ sym (number-unsigned (c .before .before .before .before .before .before .args .w .now) (omega arith) (c .before .before .if2 .left))
+returns-3 c =
+    let w = c .before .before .before .before .before .before .args .w .now in
+    let unsigned = number-unsigned w (omega arith) (c .before .before .if2 .left) in
+    c .signed2 .ensures ∙ ap (signed false) (c .before .natural2 .ensures) ∙ sym unsigned
 
 pub number-spec : {M : Type 1} → statement M
 number-spec =

@@ -48,7 +48,9 @@ loop-again c =
     omega (arith, run-more (a .separators) (a .s .now) i (omega arith) same)
 
 returns-2 : tie.Need-returns-2 Inv-loop μ-loop
-returns-2 c = omega (arith, run-past (c .before .before .before .args .separators) (c .before .before .before .args .s .now) (c .before .loop .i) (omega arith))
+returns-2 c =
+    let a = c .before .before .before .args in
+    omega (arith, run-past (a .separators) (a .s .now) (c .before .loop .i) (omega arith))
 
 pub run-end-spec : {M : Type 1} → statement M
 run-end-spec =

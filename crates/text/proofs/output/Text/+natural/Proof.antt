@@ -13,9 +13,9 @@ use Rattle.text.specs.Output.{pushed, appended}
 use Rattle.text.proofs.DecimalLaws.{decimal-small, decimal-more}
 use Rattle.text.proofs.OutputLaws.{appended-snoc}
 use Rattle.text.proofs.output.Text.natural.Reads as natural
-use Rattle.text.proofs.output.Text.natural.Kinds as natural-kinds
-use Rattle.text.proofs.output.Text.+natural.Lts-natural as natural-lts
-use Rattle.text.proofs.output.Text.push.Reads as push-reads
+use Rattle.text.proofs.output.Text.natural.Kinds as kinds
+use Rattle.text.proofs.output.Text.+natural.Lts-natural as lts
+use Rattle.text.proofs.output.Text.push.Reads as push
 use Rattle.text.proofs.output.Text.+natural.{statement}
 use Rattle.text.proofs.output.Text.+natural.Tie.{close}
 
@@ -27,47 +27,48 @@ one-more : (t u : Text) (n : ℕ) → n < 10 ^ 20 → 10 ≤ n → u ≡ appende
     → pushed u (48 + n % 10) ≡ appended t (decimal n)
 one-more t u n below large front = rw (front, decimal-more n below large) (appended-snoc t (decimal (n / 10)) (48 + n % 10))
 
-abbrev μ-natural : Measures 0 natural-kinds.ps ℕ
+abbrev μ-natural : Measures 0 kinds.ps ℕ
 μ-natural κs a = a .1 .0
 
 -- what `natural` is given at the measure t, and what a call of it asks below t
-abbrev natural-at : ℕ → In 0 natural-kinds.ps
-natural-at t = and 0 natural-kinds.ps (is 0 natural-kinds.ps μ-natural t) natural.Pre
+abbrev at : ℕ → In 0 kinds.ps
+at t = and 0 kinds.ps (is 0 kinds.ps μ-natural t) natural.Pre
 
-abbrev natural-below : ℕ → In 0 natural-kinds.ps
-natural-below t = and 0 natural-kinds.ps (falls 0 natural-kinds.ps _<_ μ-natural t) natural.Pre
+abbrev below : ℕ → In 0 kinds.ps
+below t = and 0 kinds.ps (falls 0 kinds.ps _<_ μ-natural t) natural.Pre
 
 module _ (t : ℕ) where
-  natural-cast-digit : natural-lts.Need-cast-digit (push-reads.Asked, push-reads.Learnt, natural-below t, natural.Post) (natural-at t) natural.Post
+  natural-cast-digit : lts.Need-cast-digit (push.Asked, push.Learnt, below t, natural.Post) (at t) natural.Post
   natural-cast-digit c = search needs
 
-  natural-add-digit : natural-lts.Need-add-digit (push-reads.Asked, push-reads.Learnt, natural-below t, natural.Post) (natural-at t) natural.Post
+  natural-add-digit : lts.Need-add-digit (push.Asked, push.Learnt, below t, natural.Post) (at t) natural.Post
   natural-add-digit c = search needs
 
-  natural-push-requires : natural-lts.Need-push-requires (push-reads.Asked, push-reads.Learnt, natural-below t, natural.Post) (natural-at t) natural.Post
+  natural-push-requires : lts.Need-push-requires (push.Asked, push.Learnt, below t, natural.Post) (at t) natural.Post
   natural-push-requires c κs = search needs
 
-  natural-returns : natural-lts.Need-returns (push-reads.Asked, push-reads.Learnt, natural-below t, natural.Post) (natural-at t) natural.Post
+  natural-returns : lts.Need-returns (push.Asked, push.Learnt, below t, natural.Post) (at t) natural.Post
   natural-returns c = c .push .ensures ∙ one-digit _ _ (c .before .if1 .taken)
 
-  natural-natural-requires : natural-lts.Need-natural-requires (push-reads.Asked, push-reads.Learnt, natural-below t, natural.Post) (natural-at t) natural.Post
+  natural-natural-requires : lts.Need-natural-requires (push.Asked, push.Learnt, below t, natural.Post) (at t) natural.Post
   natural-natural-requires c κs = search needs
 
-  natural-push-requires-2 : natural-lts.Need-push-requires-2 (push-reads.Asked, push-reads.Learnt, natural-below t, natural.Post) (natural-at t) natural.Post
+  natural-push-requires-2 : lts.Need-push-requires-2 (push.Asked, push.Learnt, below t, natural.Post) (at t) natural.Post
   natural-push-requires-2 c κs = search needs
 
-  natural-returns-2 : natural-lts.Need-returns-2 (push-reads.Asked, push-reads.Learnt, natural-below t, natural.Post) (natural-at t) natural.Post
+  natural-returns-2 : lts.Need-returns-2 (push.Asked, push.Learnt, below t, natural.Post) (at t) natural.Post
   natural-returns-2 c =
-      c .push2 .ensures ∙ one-more _ _ _ (omega (arith, lit< {m = 2 ^ 64} {n = 10 ^ 20} tt)) (c .before .before .if1 .left) (c .before .natural .ensures)
+      let below : 2 ^ 64 < 10 ^ 20 = lit< tt in
+      c .push2 .ensures ∙ one-more _ _ _ (omega arith) (c .before .before .if1 .left) (c .before .natural .ensures)
 
 pub +natural-spec : {M : Type 1} → statement M
-+natural-spec = close μ-natural λ t. natural-lts.spec (
-  push-reads.Asked,
-  push-reads.Learnt,
-  natural-below t,
++natural-spec = close μ-natural λ t. lts.spec (
+  push.Asked,
+  push.Learnt,
+  below t,
   natural.Post,
 )
-    (natural-at t)
+    (at t)
     natural.Post
     (natural-cast-digit t)
     (natural-add-digit t)

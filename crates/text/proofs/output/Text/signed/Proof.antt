@@ -54,7 +54,8 @@ returns c =
     let d = c .before .before .before .before in
     let z = d .before .args .n in
     let below = rw (toZ-ofZ w64 z (d .before .fits .n)) at (d .if1 .taken) in
-    with-minus _ z below (c .before .before .bytes .ensures) (c .before .size .ensures ∙ ap natAbs (toZ-ofZ w64 z (d .before .fits .n))) (c .natural .ensures)
+    let sized = c .before .size .ensures ∙ ap natAbs (toZ-ofZ w64 z (d .before .fits .n)) in
+    with-minus _ z below (c .before .before .bytes .ensures) sized (c .natural .ensures)
 
 returns-2 : tie.Need-returns-2
 returns-2 c =
