@@ -6,12 +6,15 @@
  * An outline is accepted if it has 3 to 256 corners, every coordinate is from -16,000 to 16,000, and every corner other than an edge's
  * two ends is strictly left of that edge, for every edge.
  *
- * What the caller owes. A pointer must be good for as many numbers as the count says; a list that is empty may have any pointer. A list
- * that is written (`result`, `out`) must not overlap another list of the same call. Lists that are only read may overlap or be the same.
- * Nothing else is asked: any numbers, counts and lengths are answered or refused.
+ * Strictly left of an edge from (px, py) to (qx, qy) is a point (x, y) for which (qx - px) * (y - py) - (qy - py) * (x - px) is above 0.
  *
- * What the functions do. They keep no state and no pointer, allocate nothing, and always return, so threads may call them at the same
- * time on lists of their own. A call that does not answer writes to no list.
+ * What a caller must see to. A pointer must be aligned, and good for as many numbers as the count says; a list that is empty may have any
+ * pointer. A list that is written (`result`, `out`) must not overlap another list of the same call. Lists that are only read may overlap or
+ * be the same. Nothing else is asked: any numbers, counts and lengths are answered or refused.
+ *
+ * What the functions do. They keep no state and no pointer, allocate nothing, and always return; threads may call them at the same time, as
+ * long as no list is written that another call reads or writes. They use some 12 KiB of stack. A call that does not answer writes to no
+ * list: read `result` and `out` only where the code of the status is RAVINEBOWL_ANSWERED.
  */
 #ifndef RAVINEBOWL_H
 #define RAVINEBOWL_H
@@ -29,7 +32,8 @@ extern "C" {
 #define RAVINEBOWL_LARGEST_COORDINATE 16000
 #define RAVINEBOWL_ENOUGH_STEPS 512
 
-/* Stands in a result list where a place does not apply. */
+/* Stands in a result list where a place does not apply. X and Y can be -1 too: whether there is a point goes by the side (place 4 of a
+ * comparison). */
 #define RAVINEBOWL_ABSENT (-1)
 
 /* The code of a status. 1 to 9 are refusals; where several apply, the first in the order that a call names stands. */
@@ -54,7 +58,7 @@ enum ravinebowl_side { RAVINEBOWL_NO_SIDE = 0, RAVINEBOWL_SIDE_A = 1, RAVINEBOWL
 struct ravinebowl_status {
     uint32_t code;   /* enum ravinebowl_code */
     uint32_t side;   /* enum ravinebowl_side: the outline that is refused, where there are two */
-    uint32_t places; /* how many place numbers the refusal has: 0, 1 (a corner) or 2 (an edge and a corner) */
+    uint32_t places; /* how many place numbers the refusal has: 0, 1 (a corner's) or 2 (an edge's and a corner's) */
     size_t first;    /* the first place number, or 0 where there is none */
     size_t second;   /* the second place number, or 0 where there is none */
 };
@@ -78,8 +82,9 @@ enum ravinebowl_nearest_place {
 };
 
 /* The places of the result list of ravinebowl_compare, and its length.
- * Done: places 4 to 12 have the answer, the corner of greatest gap. Spent: they have the worst so far, and where there is none yet
- * place 4 is 0 and places 5 to 12 are -1. */
+ * Done: places 4 to 12 have the answer, the corner of greatest gap. Spent: they have the worst so far, the greatest gap found in the steps
+ * made, which is never above the answer's; where there is none yet place 4 is 0 and places 5 to 12 are -1. A comparison that is spent cannot
+ * be continued: call again with more steps. A support corner is the corner of an outline that the sweep has come to. */
 enum ravinebowl_compare_place {
     RAVINEBOWL_COMPARE_KIND = 0,           /* enum ravinebowl_comparison */
     RAVINEBOWL_COMPARE_STEPS = 1,          /* the steps made: done, the number of edges of both outlines; spent, the allowance */

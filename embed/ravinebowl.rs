@@ -118,7 +118,7 @@ pub enum Comparison {
 #[derive(Clone, Copy, Debug, PartialEq, Eq)]
 pub enum Place {
     Nowhere,
-    Corner(usize),
+    At(usize),
     EdgeAndCorner(usize, usize),
 }
 
@@ -170,7 +170,7 @@ impl fmt::Display for Refusal {
         }
         match self.place {
             Place::Nowhere => write!(out, "{}", self.number),
-            Place::Corner(i) => write!(out, "{} {i}", self.number),
+            Place::At(i) => write!(out, "{} {i}", self.number),
             Place::EdgeAndCorner(e, c) => write!(out, "{} {e} {c}", self.number),
         }
     }
@@ -194,7 +194,7 @@ impl Status {
         }
         let place = match self.places {
             0 => Place::Nowhere,
-            1 => Place::Corner(self.first),
+            1 => Place::At(self.first),
             _ => Place::EdgeAndCorner(self.first, self.second),
         };
         Err(Refusal {

@@ -1,15 +1,17 @@
 // The fit program: reads two outlines from standard input and writes their comparison.
-// Room for one byte more than is read, so that a longer input shows. Input that cannot be read ends where reading fails, and output that
-// cannot be written is left out.
+// A read that fails counts as the end of the input, and what cannot be written is lost.
 use libc::STDIN_FILENO;
 ghost use mathlib.Core.Path.{_≡_};
+ghost use Prim.Native.Nat.{suc};
 ghost use lib.ListN.{length};
+ghost use Rattle.fit_text.specs.Response.{mostBytes};
 
+// Room for one byte above the limit: of a longer input no more need be read (`response-start` in `fit_text/proofs/ResponseLaws.antt`).
 const ROOM: usize = 16385;
 
-// The length as a contract spares the proof of `main` the list of all the zeros.
+// The contract has the length alone, not the list of all the zeros.
 fn room() -> [u8; ROOM]
-    ensures { λ r. ⌜ 16385 ≡ length r ⌝ }
+    ensures { λ r. ⌜ suc mostBytes ≡ length r ⌝ }
 {
     [0; ROOM]
 }

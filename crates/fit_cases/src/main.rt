@@ -31,7 +31,7 @@ fn respond_each(s: &[u8]) {
     }
 }
 
-// Room for the input. The length as a contract spares the proof of `main` the list of all the zeros.
+// Room for the input. The contract has the length alone, not the list of all the zeros.
 fn room() -> [u8; 262144]
     ensures { λ r. ⌜ 262144 ≡ length r ⌝ }
 {

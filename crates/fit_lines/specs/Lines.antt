@@ -2,7 +2,8 @@
 --     refusalText       a refusal in one line: the side, the number and the place's numbers, if any
 --     doneText          five lines: the gap, the clearance figure, side and corner, the feature with nearest x and y, and N
 --     comparisonText    one of them; nothing where the comparison is spent, which does not come with the steps that the program allows
--- Every line ends with a line end. Fractions are as they are given, not reduced.
+-- Every line ends with a line end. Fractions are as they are given, not reduced. Every number here is one of 64 bits, so that `decimal` has all
+-- its digits (`done-fits` in `hausdorff/proofs/Fitting.antt`).
 use Prim.Native.Nat.{ℕ}
 use mathlib.Core.List.{List, [], _++_}
 use lib.IntN.{ℤ}

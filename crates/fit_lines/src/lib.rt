@@ -119,8 +119,8 @@ fn done(t: Text, done: Done) -> Text
     ensures { λ r. ⌜ r ≡ appended t (doneText done) ⌝ }
 {
     let answer = done.answer;
-    let figure = answer.gap;
-    let t = clearance(gap(t, figure), done.clearance);
+    let distance = answer.gap;
+    let t = clearance(gap(t, distance), done.clearance);
     steps(to(from(t, answer), answer), done.steps)
 }
 

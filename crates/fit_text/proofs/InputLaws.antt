@@ -3,6 +3,7 @@
 --     Read                          the first i of n numbers are read to a list: what is given is decided by the words that are left
 --     none-read, one-read, all-read, not-read    how reading begins, goes on and ends
 --     outline-stop, outline-negative, outline-many, outline-counted    an outline, by what the first word gives
+--     too-many-refused              the list that stands for an outline of too many corners gets 3
 --     given-case, has-room          what the code finds, by its case
 --     with-b-end, with-b-more       what is given for B, by whether words are left
 use Prim.Native.Nat.{ℕ, zero, suc, _+_, _-_, _*_, _≤_, _<_}
@@ -22,12 +23,15 @@ use Rattle.text.specs.declared.input.Parsed.the-variants.{Number as IsNumber, I
 use Rattle.text.specs.First.{FirstNumber, Number, None, followed, firstNumber}
 use Rattle.text.specs.Number.{number}
 use Rattle.text.specs.Words.{words, isEmpty}
-use Rattle.outline.specs.Corners.{most}
+use Rattle.outline.specs.declared.Check.the-variants.{Failed}
+use Rattle.outline.specs.declared.Fault.the-variants.{TooManyCorners}
+use Rattle.outline.specs.Corners.{corners, most}
+use Rattle.outline.specs.Reading.{check}
 use Rattle.hausdorff.specs.Call.{comparison}
 use Rattle.fit_text.specs.declared.reading.Given.{Given as Found}
 use Rattle.fit_text.specs.declared.reading.Given.the-variants.{Numbers as FoundNumbers}
 use Rattle.fit_text.specs.declared.reading.Outcome.the-variants.{Compared, Unreadable as OutcomeUnreadable}
-use Rattle.fit_text.specs.Input.{Given, Numbers, TooMany, Unreadable, before, numbers, counted, outline, allowance, withB, asGiven, countOf}
+use Rattle.fit_text.specs.Input.{Given, Numbers, TooMany, Unreadable, before, numbers, counted, outline, allowance, tooMany, withB, asGiven, countOf}
 
 -- a word that gives a number, with the words after it
 is-number : (ws : List (List ℕ)) (p : Parsed) {z : ℤ} {rest : List (List ℕ)}
@@ -137,6 +141,14 @@ pub count-bound : (z : ℤ) → ltZ z (pos 0) ≡ false → ltZ (pos most) z ≡
 count-bound (pos n) not-below not-above = (tt, ltb-false most n not-above)
 count-bound (negsuc n) not-below not-above = absurd (false≢true (sym not-below))
 
+too-many-corners : length (corners tooMany) ≡ 257
+unfolding corners
+too-many-corners = refl
+
+pub too-many-refused : check tooMany ≡ Failed TooManyCorners
+unfolding check
+too-many-refused = rw too-many-corners
+
 -- what the code finds, by its case
 pub given-case : (s : List ℕ) (out : List ℤ) (ws : List (List ℕ)) {r found : Found} → asGiven s out r ≡ outline ws → r ≡ found
     → outline ws ≡ asGiven s out found
@@ -145,7 +157,7 @@ given-case s out ws given case = sym given ∙ ap (asGiven s out) case
 pub has-room : {n past m : ℕ} {r : Found} → r ≡ FoundNumbers n past → countOf r ≤ m → n ≤ m
 has-room case room = rw case at room
 
--- B's numbers are read: words behind them cannot be read
+-- B's numbers are read: words after them cannot be read
 module _ (a : List ℤ) (ws : List (List ℕ)) {t : List ℤ} {rest : List (List ℕ)} (given : outline ws ≡ Numbers t rest) where
   pub with-b-end : isEmpty rest ≡ true → Compared (comparison a t allowance) ≡ withB a (outline ws)
   with-b-end none = rw given (by-rest rest none)

@@ -1,31 +1,30 @@
 -- Laws of what the program writes.
 --     response-laid-down    every response is one of document 01's texts: 512 steps are always enough
+--     response-start        one byte above the limit tells all that the program needs of a longer input
 --     response-fits         every response fits a text
-use Prim.Native.Nat.{ℕ, _≤_}
+use Prim.Native.Nat.{ℕ, suc, _≤_}
 use mathlib.Core.Path.{_≡_, refl}
 use mathlib.Core.Bool.{Bool, true, false, cond}
 use mathlib.Core.List.{List, [], _∷_}
 use native.Mathlib.Omega.{arith}
 use lib.Dec.{ltb}
 use lib.IntN.{ℤ}
-use lib.ListN.{length}
+use lib.ListN.{length, take}
+use lib.Seq.{take-all, length-take-le}
+use borrow.Author.Tests.{lt-ltb, ltb-true, ltb-false}
 use Rattle.text.specs.Output.{room}
 use Rattle.text.specs.Words.{words}
-use Rattle.outline.specs.declared.Check.{Check}
-use Rattle.outline.specs.declared.Check.the-variants.{Passed, Failed}
-use Rattle.outline.specs.declared.Fault.the-variants.{TooManyCorners}
-use Rattle.outline.specs.Reading.{check}
 use Rattle.hausdorff.specs.declared.Spent.{Spent as SpentReport}
 use Rattle.hausdorff.specs.declared.Report.the-variants.{Done as ReportDone}
 use Rattle.hausdorff.specs.declared.Comparison.{Comparison}
 use Rattle.hausdorff.specs.declared.Comparison.the-variants.{Refused, Spent, Done}
-use Rattle.hausdorff.specs.Call.{comparisonFor, comparison, IsComparison, refused-a, refused-b, reported}
+use Rattle.hausdorff.specs.Call.{comparison, IsComparison, refused-a, refused-b, reported}
 use Rattle.hausdorff.proofs.CallLaws.{is-comparison}
 use Rattle.fit_lines.specs.Lines.{comparisonText}
 use Rattle.fit_lines.proofs.LengthLaws.{refusal-fits, done-fits}
 use Rattle.fit_text.specs.declared.reading.Outcome.{Outcome}
 use Rattle.fit_text.specs.declared.reading.Outcome.the-variants.{Compared, Unreadable}
-use Rattle.fit_text.specs.Input.{Given, Numbers, TooMany, Unreadable as GivenUnreadable, outline, allowance, tooManyOfB, withB, withA, outcome}
+use Rattle.fit_text.specs.Input.{Given, Numbers, TooMany, Unreadable as GivenUnreadable, outline, allowance, tooMany, withB, withA, outcome}
 use Rattle.fit_text.specs.Response.{outcomeText, mostBytes, judged, response, LaidDown, unreadable, refused, done}
 
 -- an accepted pair has at most 512 edges, so the law of comparing says that it is done
@@ -45,22 +44,15 @@ comparison-laid-down (Refused r) not-spent = refused r refl
 comparison-laid-down (Spent p) not-spent = absurd (not-spent p refl)
 comparison-laid-down (Done d) not-spent = done d refl
 
-many-laid-down : (s : List ℤ) → LaidDown (comparisonText (tooManyOfB s))
-many-laid-down s = by-check (check s)
-  where
-    by-check : (c : Check) → LaidDown (comparisonText (comparisonFor s [] allowance c (Failed TooManyCorners)))
-    by-check Passed = refused _ refl
-    by-check (Failed f) = refused _ refl
-
 b-laid-down : (s : List ℤ) (g : Given) → LaidDown (outcomeText (withB s g))
 b-laid-down s (Numbers t []) = comparison-laid-down (comparison s t allowance) (never-spent s t)
 b-laid-down s (Numbers t (w ∷ ws)) = unreadable refl
-b-laid-down s TooMany = many-laid-down s
+b-laid-down s TooMany = comparison-laid-down (comparison s tooMany allowance) (never-spent s tooMany)
 b-laid-down s GivenUnreadable = unreadable refl
 
 a-laid-down : (g : Given) → LaidDown (outcomeText (withA g))
 a-laid-down (Numbers s ws) = b-laid-down s (outline ws)
-a-laid-down TooMany = refused _ refl
+a-laid-down TooMany = comparison-laid-down (comparison tooMany [] allowance) (never-spent tooMany [])
 a-laid-down GivenUnreadable = unreadable refl
 
 pub response-laid-down : (s : List ℕ) → LaidDown (response s)
@@ -75,6 +67,17 @@ outcome-fits (Compared (Refused r)) = refusal-fits r
 outcome-fits (Compared (Spent s)) = omega arith
 outcome-fits (Compared (Done d)) = done-fits d
 outcome-fits Unreadable = omega arith
+
+-- so the program need not read more than one byte above the limit
+pub response-start : (s : List ℕ) → response (take (suc mostBytes) s) ≡ response s
+response-start s = by-length (ltb mostBytes (length s)) refl
+  where
+    by-length : (t : Bool) → ltb mostBytes (length s) ≡ t → response (take (suc mostBytes) s) ≡ response s
+    by-length true long =
+        let more = ltb-true mostBytes (length s) long in
+        let cut : ltb mostBytes (length (take (suc mostBytes) s)) ≡ true = rw (length-take-le (suc mostBytes) s more) (lt-ltb mostBytes (suc mostBytes) (omega arith)) in
+        rw (cut, long)
+    by-length false short = rw (take-all (suc mostBytes) s (omega (arith, ltb-false mostBytes (length s) short)))
 
 pub response-fits : (s : List ℕ) → length (response s) ≤ room
 response-fits s = outcome-fits (judged s)

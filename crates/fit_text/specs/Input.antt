@@ -1,31 +1,25 @@
 -- Document 01: what the fit program reads.
 --     numbers       so many numbers, one a word
 --     outline       a corner count and the numbers of an outline. A count above 256 ends the reading
---     withB, withA  what is given for B, where A's numbers are read, and for A. Nothing may stand behind the numbers of B
---     tooManyOfB    B's count is above 256, which counts as 3 for B. A is checked before
+--     tooMany       a list of 257 corners: it stands for an outline whose count is above 256, which counts as 3 for its side
+--                   (`too-many-refused` in `proofs/InputLaws.antt`)
+--     withB, withA  what is given for B, where A's numbers are read, and for A. Nothing may stand after the numbers of B
 --     outcome       what a text gives: a comparison in at most 512 steps, or it cannot be read
 -- For the code:
 --     asGiven       what it finds in a text and writes to a list, as a `Given`
 --     countOf       how many numbers it finds
-use Prim.Native.Nat.{ℕ, zero, suc, _*_}
+use Prim.Native.Nat.{ℕ, zero, suc, _+_, _*_}
 use mathlib.Core.Bool.{cond}
 use mathlib.Core.List.{List, [], _∷_}
 use lib.Dec.{ltb}
 use lib.IntN.{ℤ, pos, negsuc}
-use lib.ListN.{take, drop}
+use lib.ListN.{replicate, take, drop}
 use Rattle.text.specs.declared.input.Parsed.{Parsed}
 use Rattle.text.specs.declared.input.Parsed.the-variants.{Number, Invalid}
 use Rattle.text.specs.Number.{number}
 use Rattle.text.specs.Words.{words}
-use Rattle.outline.specs.declared.Check.the-variants.{Failed}
-use Rattle.outline.specs.declared.Fault.the-variants.{TooManyCorners}
-use Rattle.outline.specs.declared.RefusedSide.the-variants.{A}
 use Rattle.outline.specs.Corners.{most}
-use Rattle.outline.specs.Reading.{check}
-use Rattle.outline.specs.Refusal.{refusal}
-use Rattle.hausdorff.specs.declared.Comparison.{Comparison}
-use Rattle.hausdorff.specs.declared.Comparison.the-variants.{Refused}
-use Rattle.hausdorff.specs.Call.{comparisonFor, comparison}
+use Rattle.hausdorff.specs.Call.{comparison}
 use Rattle.fit_text.specs.declared.reading.Outcome.{Outcome}
 use Rattle.fit_text.specs.declared.reading.Outcome.the-variants.{Compared, Unreadable as OutcomeUnreadable}
 use Rattle.fit_text.specs.declared.reading.Given.{Given as Found}
@@ -64,18 +58,18 @@ outline (w ∷ ws) = counted ws (number w)
 abbrev pub allowance : ℕ
 allowance = 512
 
-abbrev pub tooManyOfB : List ℤ → Comparison
-tooManyOfB s = comparisonFor s [] allowance (check s) (Failed TooManyCorners)
+abbrev pub tooMany : List ℤ
+tooMany = replicate (2 * most + 2) (pos 0)
 
 abbrev pub withB : List ℤ → Given → Outcome
 withB s (Numbers t []) = Compared (comparison s t allowance)
 withB s (Numbers t (w ∷ ws)) = OutcomeUnreadable
-withB s TooMany = Compared (tooManyOfB s)
+withB s TooMany = Compared (comparison s tooMany allowance)
 withB s Unreadable = OutcomeUnreadable
 
 abbrev pub withA : Given → Outcome
 withA (Numbers s ws) = withB s (outline ws)
-withA TooMany = Compared (Refused (refusal A TooManyCorners))
+withA TooMany = Compared (comparison tooMany [] allowance)
 withA Unreadable = OutcomeUnreadable
 
 abbrev pub outcome : List ℕ → Outcome

@@ -1,10 +1,6 @@
 // From the bytes of the input to what comparing its two outlines gives.
 use hausdorff::Comparison;
-use outline::Check;
-use outline::Fault;
-use outline::RefusedSide;
-use outline::checks;
-use outline::refusals;
+use outline::MOST;
 use text::input;
 use text::input::Next;
 ghost use mathlib.Core.Path.{_≡_};
@@ -13,13 +9,13 @@ ghost use lib.IntN.{ℤ};
 ghost use lib.ListN.{length, drop};
 ghost use Rattle.text.specs.Words.{words};
 ghost use Rattle.outline.specs.Corners.{most};
-ghost use Rattle.fit_text.specs.Input.{numbers, outline, withB, outcome, asGiven, countOf, tooManyOfB};
+ghost use Rattle.fit_text.specs.Input.{numbers, outline, withB, outcome, asGiven, countOf, tooMany};
 
 // How many steps are allowed: every comparison is done with so many.
 const ALLOWANCE: u32 = 512;
 
 // How many numbers an outline has at the most.
-const MOST_NUMBERS: usize = 512;
+const MOST_NUMBERS: usize = 2 * MOST;
 
 // What a text gives for an outline: how many numbers, and the place after them; a count above 256; or what cannot be read.
 pub enum Given {
@@ -65,37 +61,34 @@ fn outline(s: &[u8], from: usize, out: &mut [i32]) -> Given
     if count < 0 {
         return Given::Unreadable;
     }
-    if 256 < count {
+    if (MOST as i32) < count {
         return Given::TooMany;
     }
     numbers(s, after, 2 * (count as usize), out)
 }
 
-// B's corner count is above 256: A is checked first.
-fn too_many_of_b(a: &[i32]) -> Comparison
-    ensures { λ r. ⌜ r ≡ tooManyOfB (now (a .entry)) ⌝ }
+// A list of 257 corners, which stands for an outline whose corner count is above 256: it gets 3.
+fn too_many() -> [i32; MOST_NUMBERS + 2]
+    ensures { λ r. ⌜ r ≡ tooMany ⌝ }
 {
-    if let Check::Failed(fault) = checks::check(a) {
-        return Comparison::Refused(refusals::refusal(RefusedSide::A, fault));
-    }
-    Comparison::Refused(refusals::refusal(RefusedSide::B, Fault::TooManyCorners))
+    [0; MOST_NUMBERS + 2]
 }
 
-// The length as a contract spares its users the list of all the zeros.
+// Room for the numbers of an outline. The contract has its length alone, not the list of all the zeros.
 fn no_numbers() -> [i32; MOST_NUMBERS]
-    ensures { λ r. ⌜ 512 ≡ length r ⌝ }
+    ensures { λ r. ⌜ 2 * most ≡ length r ⌝ }
 {
     [0; MOST_NUMBERS]
 }
 
-// What the text from a place on gives where the numbers of A are read: B's count and numbers, and nothing behind them.
+// What the text from a place on gives where the numbers of A are read: B's count and numbers, and nothing after them.
 fn with_b(a: &[i32], s: &[u8], from: usize) -> Outcome
     ensures { λ r. ⌜ r ≡ withB (now (a .entry)) (outline (words (drop from (now (s .entry))))) ⌝ }
 {
     let mut b = no_numbers();
     match outline(s, from, &mut b) {
         Given::Unreadable => Outcome::Unreadable,
-        Given::TooMany => Outcome::Compared(too_many_of_b(a)),
+        Given::TooMany => Outcome::Compared(calls::compare(a, &too_many(), ALLOWANCE)),
         Given::Numbers(n, next) => {
             if !input::is_at_end(s, next) {
                 return Outcome::Unreadable;
@@ -112,10 +105,7 @@ pub fn read(s: &[u8]) -> Outcome
     let mut a = no_numbers();
     match outline(s, 0, &mut a) {
         Given::Unreadable => Outcome::Unreadable,
-        Given::TooMany => Outcome::Compared(Comparison::Refused(refusals::refusal(
-            RefusedSide::A,
-            Fault::TooManyCorners,
-        ))),
+        Given::TooMany => Outcome::Compared(calls::compare(&too_many(), &[], ALLOWANCE)),
         Given::Numbers(n, next) => with_b(&a[..n], s, next),
     }
 }

@@ -1,4 +1,4 @@
--- The law of demand 3, in the order of the argument.
+-- The law of demand 3, in the order of the argument; what the call that compares gives, and the sizes of its numbers.
 pub mod GoesRound
 pub mod SortLaws
 pub mod Cyclic
@@ -20,3 +20,4 @@ pub mod SideWorst
 pub mod AnswerLaws
 pub mod Law
 pub mod CallLaws
+pub mod Fitting

@@ -13,3 +13,4 @@ pub mod Counted
 pub mod Report
 pub mod Law
 pub mod Call
+pub mod Sizes

@@ -1,5 +1,4 @@
 -- Laws about what the exported calls return and write.
 pub mod StatusLaws
 pub mod Signed
-pub mod Fitting
 pub mod CallsLaws

@@ -1,6 +1,6 @@
 -- What each call returns, and what it leaves in the list that it may write.
 --     nearestLength, compareLength            how long a result list must be
---     ifLong                                  one value where a list has the right length, another where not
+--     ifOfLength                                  one value where a list has the right length, another where not
 --     statusOfComparison, listOfComparison    by what comparing answers: the status, and the result list, given what it held before
 --     compareStatus, compareList              of `ravinebowl_compare`
 --     statusOfNearest, listOfNearest          the same for the nearest point
@@ -32,8 +32,8 @@ abbrev pub compareLength : ℕ
 compareLength = 14
 
 -- the length is judged before anything else
-abbrev pub ifLong : {X : Type 0} → List ℤ → ℕ → X → X → X
-ifLong result long right wrong = cond (eqb (length result) long) right wrong
+abbrev pub ifOfLength : {X : Type 0} → List ℤ → ℕ → X → X → X
+ifOfLength result long right wrong = cond (eqb (length result) long) right wrong
 
 -- being spent is no refusal
 abbrev pub statusOfComparison : Comparison → Status
@@ -48,10 +48,10 @@ listOfComparison (Spent p) before = ofSpent p
 listOfComparison (Done d) before = ofDone d
 
 unfoldable pub compareStatus : List ℤ → List ℤ → ℕ → List ℤ → Status
-compareStatus s t allowance result = ifLong result compareLength (statusOfComparison (comparison s t allowance)) wrongResultLength
+compareStatus s t allowance result = ifOfLength result compareLength (statusOfComparison (comparison s t allowance)) wrongResultLength
 
 unfoldable pub compareList : List ℤ → List ℤ → ℕ → List ℤ → List ℤ
-compareList s t allowance result = ifLong result compareLength (listOfComparison (comparison s t allowance) result) result
+compareList s t allowance result = ifOfLength result compareLength (listOfComparison (comparison s t allowance) result) result
 
 abbrev pub statusOfNearest : NearestAnswer → Status
 statusOfNearest (NotFound r) = refusedStatus r
@@ -62,10 +62,10 @@ listOfNearest (NotFound r) before = before
 listOfNearest (Found a) before = ofNearest a
 
 unfoldable pub nearestStatus : ℤ → ℤ → List ℤ → List ℤ → Status
-nearestStatus x y s result = ifLong result nearestLength (statusOfNearest (nearestAnswer (record { x = x; y = y }) s)) wrongResultLength
+nearestStatus x y s result = ifOfLength result nearestLength (statusOfNearest (nearestAnswer (record { x = x; y = y }) s)) wrongResultLength
 
 unfoldable pub nearestList : ℤ → ℤ → List ℤ → List ℤ → List ℤ
-nearestList x y s result = ifLong result nearestLength (listOfNearest (nearestAnswer (record { x = x; y = y }) s) result) result
+nearestList x y s result = ifOfLength result nearestLength (listOfNearest (nearestAnswer (record { x = x; y = y }) s) result) result
 
 abbrev pub statusOfVerdict : Verdict → Status
 statusOfVerdict Taken = answered

@@ -11,7 +11,7 @@ ghost use Prim.Native.Nat.{_^_, _<_};
 ghost use lib.IntN.{pos};
 ghost use lib.ListN.{length};
 ghost use Rattle.ravinebowl.specs.Results.{kindOf, numberOf, ofNearest, sideOf, ofCorner, ofWorst, row, ofDone, ofSpent};
-ghost use Rattle.ravinebowl.specs.Sizes.{FitFeature, FitNearest, FitCorner, FitWorst, FitDone, FitSpent};
+ghost use Rattle.hausdorff.specs.Sizes.{FitFeature, FitNearest, FitCorner, FitWorst, FitDone, FitSpent};
 
 // How many numbers there are of a nearest point, of a corner with its gap, and of a comparison.
 pub const NEAREST_LENGTH: usize = 7;

@@ -1,6 +1,6 @@
 -- Laws of decimal text.
 --     digits-short                   no more digits than asked for
---     decimal-small, decimal-more    one digit; more digits are those of a tenth and one behind them
+--     decimal-small, decimal-more    one digit; more digits are those of a tenth and one after them
 --     decimal-zero, decimal-some     0 is one zero; no text is empty
 --     decimal-digits, first-no-minus    every byte is a digit, so none is a minus
 --     decimal-value                  the digits have the number's value
@@ -32,7 +32,7 @@ use Rattle.text.proofs.NumberLaws.{digit-bounds, all-digits-cons, first
 abbrev last : ℕ → List ℕ
 last n = (48 + n % 10) ∷ []
 
--- induction on the digits: what holds of none, of one, and of one more behind those of a tenth, holds of all
+-- induction on the digits: what holds of none, of one, and of one more after those of a tenth, holds of all
 digits-induction : (P : ℕ → ℕ → List ℕ → Type 0)
     → ((n : ℕ) → P 0 n [])
     → ((k n : ℕ) → n < 10 → P (suc k) n (last n))
@@ -153,7 +153,7 @@ decimal-is n below = record { some = decimal-some n; all = decimal-digits n; lea
     by-number zero below more = absurd (omega (arith, ap length decimal-zero))
     by-number (suc n) below more = decimal-first (suc n) below (omega arith)
 
--- one digit more behind a number above 0
+-- one digit more after a number above 0
 digits-with : (k n b : ℕ) → 0 < n → isDigit b ≡ true → digits (suc k) (withDigit n b) ≡ digits k n ++ (b ∷ [])
 digits-with k n b some digit =
     let (low, high) = digit-bounds b digit in
@@ -161,7 +161,7 @@ digits-with k n b some digit =
     let digit-is : 48 + withDigit n b % 10 ≡ b = omega arith in
     rw (digits-more k (withDigit n b) (omega arith), front, digit-is)
 
--- digits behind a number above 0
+-- digits after a number above 0
 digits-from : (k n : ℕ) (w : List ℕ) → 0 < n → allDigits w ≡ true → digits (k + length w) (valueFrom n w) ≡ digits k n ++ w
 unfolding valueFrom
 digits-from k n [] some all = rw (add-zero, append-nil)

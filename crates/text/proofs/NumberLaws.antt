@@ -2,7 +2,7 @@
 --     digit-bounds         a digit is one of the bytes 48 to 57
 --     all-digits-cons, first-digit    all are digits: the first is one, and so are the others
 --     all-digits-next, value-next    the digits from a place on, by the first of them
---     all-digits-append, value-append, value-snoc    digits behind others; one digit behind others is one digit more
+--     all-digits-append, value-append, value-snoc    digits after others; one digit after others is one digit more
 --     with-digit-below     one digit more makes a number at most ten times as large
 --     value-below          k digits have a value below 10 ^ k
 --     natural-empty, natural-long    no byte, and more than five, give no number

@@ -1,8 +1,8 @@
--- Laws of a text that is made piece by piece.
+-- Laws of a text that is made part by part.
 --     appended-append, joined    two lists are appended as one
---     appended-nil, appended-snoc    no list; a list and a byte behind it
+--     appended-nil, appended-snoc    no list; a list and a byte after it
 --     appended-text, held-text    these are texts
---     held-appended      what is appended to a text that is held, and fits, is held behind it
+--     held-appended      what is appended to a text that is held, and fits, is held after it
 use Prim.Native.Nat.{ℕ, suc, _+_, _-_, _≤_, _<_}
 use mathlib.Core.Bool.{Bool, true, false, cond}
 use mathlib.Core.Path.{_≡_, refl, sym, _∙_}

@@ -83,7 +83,7 @@ pub record IsWord (w : List ℕ) : Type 0 where
   pub some : 0 < length w
   pub whole : NoSeparator w
 
--- bytes that are no separators make the run behind them longer
+-- bytes that are no separators make the run after them longer
 run-whole : (w s : List ℕ) → NoSeparator w → run false (w ++ s) ≡ length w + run false s
 unfolding run
 run-whole [] s whole = omega arith
@@ -131,7 +131,7 @@ from-are-words v (b ∷ s) w whole there =
 pub words-are-words : (s w : List ℕ) → List·Memᴰ w (words s) → IsWord w
 words-are-words s w = from-are-words [] s w none-whole
 
--- separators before a text give no word, and behind them stands none
+-- separators before a text give no word, and none stands after them
 skipped : (s : List ℕ) → words (drop (run true s) s) ≡ words s
 unfolding wordsFrom run
 skipped [] = refl
@@ -142,10 +142,10 @@ skipped (b ∷ s) = by-test (isSeparator b) refl (skipped s)
     by-test true splits onward = onward
     by-test false other onward = rw other
 
-none-behind : (s : List ℕ) → run true (drop (run true s) s) ≡ 0
+none-after : (s : List ℕ) → run true (drop (run true s) s) ≡ 0
 unfolding run
-none-behind [] = refl
-none-behind (b ∷ s) = by-test (isSeparator b) refl (none-behind s)
+none-after [] = refl
+none-after (b ∷ s) = by-test (isSeparator b) refl (none-after s)
   where
     by-test : (t : Bool) → isSeparator b ≡ t → run true (drop (run true s) s) ≡ 0 → run true (drop (cond t (suc (run true s)) 0) (b ∷ s)) ≡ 0
     by-test true splits onward = onward
@@ -165,23 +165,23 @@ module _ (s : List ℕ) (from : ℕ) where
   abbrev start : ℕ
   start = from + run true (drop from s)
 
-  -- behind the separators
-  behind : drop (run true (drop from s)) (drop from s) ≡ drop start s
-  behind = drop-drop (run true (drop from s)) from s
+  -- after the separators
+  beyond : drop (run true (drop from s)) (drop from s) ≡ drop start s
+  beyond = drop-drop (run true (drop from s)) from s
 
   pub next-word : 0 < run false (drop start s)
       → words (drop from s) ≡ take (run false (drop start s)) (drop start s) ∷ words (drop (start + run false (drop start s)) s)
   next-word some =
-      rw (← skipped (drop from s), behind, ← drop-drop (run false (drop start s)) start s) (first-word (drop start s) some)
+      rw (← skipped (drop from s), beyond, ← drop-drop (run false (drop start s)) start s) (first-word (drop start s) some)
 
   pub no-word : run false (drop start s) ≡ 0 → length s ≤ start
   no-word none =
-      let empty = no-run (drop start s) (rw behind at (none-behind (drop from s))) none in
+      let empty = no-run (drop start s) (rw beyond at (none-after (drop from s))) none in
       omega (arith, rw length-drop at empty)
 
   pub past-words : length s ≤ start → words (drop from s) ≡ []
   unfolding wordsFrom
-  past-words past = rw (← skipped (drop from s), behind, drop-of-length-le s past)
+  past-words past = rw (← skipped (drop from s), beyond, drop-of-length-le s past)
 
   pub at-end : leb (length s) start ≡ isEmpty (words (drop from s))
   at-end = by-test (leb (length s) start) refl (ltb 0 (run false (drop start s))) refl

@@ -1,5 +1,5 @@
 -- Numbers as decimal text.
---     digits           the last digits of a number, none that stands before the first, and `most` at the most
+--     digits           the digits of a number without leading zeros; only the last `most` of them if there are more
 --     decimal          a number of at most 20 digits; every number of 64 bits is one
 --     signedDecimal    the same with a minus before it where the number is below 0
 -- `proofs/DecimalLaws.antt` shows that the digits have the number's value, that no zero leads, and that 0 has no minus.

@@ -1,7 +1,7 @@
 -- Document 01: a number is an optional minus and one to five digits.
 --     isDigit, allDigits    a byte is a digit, all of a word are
 --     withDigit             a number with one digit more
---     valueFrom, value      the value of digits, behind a number and alone
+--     valueFrom, value      the value of digits, after a number and alone
 --     natural               the value of one to five digits
 --     withSign, signed      a number with its sign; what digits give with a sign before them
 --     number                the number that a word gives, if it gives one

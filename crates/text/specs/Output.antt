@@ -3,7 +3,7 @@
 --     held        a text of at most so many bytes as one value, the unused places zero
 --     IsText      a value that holds a text
 --     pushed      a text with one byte more; a full one stays as it is
---     appended    a text with the bytes of a list behind it
+--     appended    a text with the bytes of a list after it
 use Prim.Native.Nat.{ℕ, _+_, _-_, _≤_}
 use mathlib.Core.Bool.{cond}
 use mathlib.Core.Path.{_≡_}
@@ -13,7 +13,7 @@ use lib.ListN.{length, replicate, set}
 use Rattle.text.specs.declared.output.Text.{Text}
 
 abbrev pub room : ℕ
-room = 256
+room = 512
 
 unfoldable pub held : List ℕ → Text
 held s = record { count = length s; bytes = s ++ replicate (room - length s) 0 }

@@ -127,7 +127,7 @@ fn run_end(s: &[u8], from: usize, separators: bool) -> usize
     i
 }
 
-// The number that the first word from a place on gives.
+// The number that the first word from a place on gives, and a place from which the words after it can be read.
 pub fn next_number(s: &[u8], from: usize) -> Next
     ensures { λ r. ⌜ asFirst (now (s .entry)) r ≡ firstNumber (words (drop from (now (s .entry)))) ⌝ }
 {

@@ -1,4 +1,4 @@
-// A text that is made piece by piece.
+// A text that is made part by part.
 ghost use mathlib.Core.List.{[]};
 ghost use mathlib.Core.Path.{_≡_};
 ghost use lib.IntN.{pos, natAbs};
@@ -7,9 +7,9 @@ ghost use Rattle.text.specs.Decimal.{decimal, signedDecimal};
 ghost use Rattle.text.specs.Output.{held, pushed, appended};
 
 // How many bytes a text has room for.
-pub const ROOM: usize = 256;
+pub const ROOM: usize = 512;
 
-// A text as one value: how many bytes it has, and places for 256 of them, the unused ones zero.
+// A text as one value: how many bytes it has, and places for 512 of them, the unused ones zero.
 pub struct Text {
     pub count: usize,
     pub bytes: [u8; ROOM],
@@ -47,7 +47,7 @@ impl Text {
         longer
     }
 
-    // The text with the bytes of a list behind it.
+    // The text with the bytes of a list after it.
     pub fn bytes(self, s: &[u8]) -> Text
         ensures { λ r. ⌜ r ≡ appended self (now (s .entry)) ⌝ }
     {
@@ -60,7 +60,7 @@ impl Text {
         longer
     }
 
-    // The text with a number in decimal behind it. It calls itself at most 19 times, one inside the other.
+    // The text with a number in decimal after it. It calls itself at most 19 times, one inside the other.
     pub fn natural(self, n: u64) -> Text
         ensures { λ r. ⌜ r ≡ appended self (decimal n) ⌝ }
     {

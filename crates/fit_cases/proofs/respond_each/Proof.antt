@@ -1,4 +1,4 @@
--- `fit_cases::respond_each` is safe and ends: each case ends behind its start.
+-- `fit_cases::respond_each` is safe and ends: each case ends after its start.
 use borrow.Author.Needs.{needs}
 use native.Mathlib.Omega.{arith}
 use Prim.Native.Nat.{_-_}

@@ -1,4 +1,4 @@
--- `fit_lines::coordinate` puts a coordinate's two numbers behind a space.
+-- `fit_lines::coordinate` puts a coordinate's two numbers after a space.
 use borrow.Author.Needs.{needs}
 use mathlib.Core.Path.{sym}
 use mir.Facts.{toZ-ofZ}

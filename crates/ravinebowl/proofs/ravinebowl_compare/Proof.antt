@@ -3,7 +3,7 @@ use borrow.Author.Needs.{needs}
 use mathlib.Core.Path.{_≡_, sym, _∙_}
 use Rattle.hausdorff.specs.declared.Comparison.{Comparison}
 use Rattle.ravinebowl.specs.Calls.{compareStatus, compareList, statusOfComparison, listOfComparison}
-use Rattle.ravinebowl.proofs.Fitting.{spent-fits, done-fits}
+use Rattle.hausdorff.proofs.Fitting.{spent-fits, done-fits}
 use Rattle.ravinebowl.proofs.CallsLaws.{compare-wrong, compare-right}
 use Rattle.ravinebowl.proofs.ravinebowl_compare.Statement.{statement}
 use Rattle.ravinebowl.proofs.ravinebowl_compare.Tie as tie

@@ -5,7 +5,7 @@ use mir.Syntax.{w32}
 use mir.ValLaws.{toZ-ofZ}
 use Rattle.nearest.specs.declared.NearestAnswer.{NearestAnswer}
 use Rattle.ravinebowl.specs.Calls.{nearestStatus, nearestList, statusOfNearest, listOfNearest}
-use Rattle.ravinebowl.proofs.Fitting.{found-fits}
+use Rattle.hausdorff.proofs.Fitting.{found-fits}
 use Rattle.ravinebowl.proofs.CallsLaws.{nearest-wrong, nearest-right}
 use Rattle.ravinebowl.proofs.ravinebowl_nearest_point.Statement.{statement}
 use Rattle.ravinebowl.proofs.ravinebowl_nearest_point.Tie as tie

@@ -12,7 +12,7 @@ use Rattle.text.specs.Output.{pushed, appended}
 use Rattle.text.proofs.output.Text.bytes.Statement.{statement}
 use Rattle.text.proofs.output.Text.bytes.Tie as tie
 
--- the text with what is left behind it stays the same
+-- the text with what is left after it stays the same
 one-more : (t : Text) (s : List ℕ) (i : ℕ) → i < length s
     → appended t (drop i s) ≡ appended (pushed t (getD s i 0)) (drop (i + 1) s)
 unfolding appended

@@ -31,23 +31,23 @@ use Rattle.nearest.specs.Call.{nearestAnswer}
 use Rattle.nearest.specs.Feature.{values}
 use Rattle.nearest.specs.Nearest.{Fits, Answers}
 use Rattle.nearest.proofs.CallLaws.{call-answers}
 use Rattle.hausdorff.specs.declared.CornerGap.{CornerGap}
 use Rattle.hausdorff.specs.declared.WorstSoFar.{WorstSoFar}
 use Rattle.hausdorff.specs.declared.WorstSoFar.the-variants.{None, Worst}
 use Rattle.hausdorff.specs.declared.Side.{Side}
 use Rattle.hausdorff.specs.declared.Side.the-variants.{A, B}
 use Rattle.hausdorff.specs.declared.Spent.{Spent}
 use Rattle.hausdorff.specs.declared.Done.{Done}
 use Rattle.hausdorff.specs.declared.Report.the-variants.{Spent as ReportSpent, Done as ReportDone}
 use Rattle.hausdorff.specs.declared.Comparison.the-variants.{Spent as IsSpent, Done as IsDone}
 use Rattle.hausdorff.specs.Pair.{Pair, AcceptedPair, other}
 use Rattle.hausdorff.specs.Answer.{IsGap}
 use Rattle.hausdorff.specs.Sweep.{after}
 use Rattle.hausdorff.specs.Law.{OfDone, OfSpent}
 use Rattle.hausdorff.specs.Call.{IsComparison}
 use Rattle.hausdorff.proofs.CallLaws.{both-accepted, reported-means}
 use Rattle.hausdorff.proofs.WorstLaws.{support-known}
-use Rattle.ravinebowl.specs.Sizes.{Fit, FitNearest, FitCorner, FitWorst, FitDone, FitSpent}
+use Rattle.hausdorff.specs.Sizes.{Fit, FitNearest, FitCorner, FitWorst, FitDone, FitSpent}
 
 -- a number of known size
 size-fits : {b : ℕ} {z : ℤ} → AtMost b z → T (ltb b (2 ^ 63)) → Fit (natAbs z)

@@ -1,4 +1,4 @@
--- The numbers of an answer that fit an i64: what the code asks that casts them. `proofs/Fitting.antt` shows that all do.
+-- The numbers of an answer fit 63 bits, so that they can be cast to i64: `proofs/Fitting.antt` shows that all do.
 --     Fit                    a number does
 --     FitFeature             a feature's number
 --     FitNearest             the numbers of a nearest point
