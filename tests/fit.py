@@ -16,6 +16,7 @@ from fit_reference import LARGEST_INPUT, fit
 from pairs import Random, beside, from_corner, from_edges, large, middling, moved, near_tie, numbers, small
 
 PROGRAM = Path(__file__).resolve().parent.parent / "target" / "bin" / "fit"
+# Every 20th input arrives in parts, with pauses, so that reads come short; the longest that a run may take, in seconds.
 CHUNKED = 20
 PAUSE = 0.02
 SECONDS = 60
@@ -167,8 +168,8 @@ def show(name, data, expected, found):
     stored = Path(tempfile.gettempdir()) / name
     stored.write_bytes(data)
     print(f"differs: {data[:1000]!r}{' and so on' if len(data) > 1000 else ''}\nstored in {stored}, {len(data)} bytes")
-    for name, (out, err, status) in (("expected", expected), ("found", found)):
-        print(f"{name} {out!r}, standard error {err!r}, exit status {status}")
+    for which, (out, err, status) in (("expected", expected), ("found", found)):
+        print(f"{which} {out!r}, standard error {err!r}, exit status {status}")
 
 
 def kinds(printed):
@@ -196,6 +197,8 @@ def main(seed, count, program=PROGRAM):
 
 
 if __name__ == "__main__":
-    if len(sys.argv) not in (3, 4) or int(sys.argv[1]) < 1:
+    if len(sys.argv) not in (3, 4) or not all(word.isdecimal() for word in sys.argv[1:3]) or int(sys.argv[1]) < 1:
         sys.exit(__doc__)
+    if not Path((sys.argv + [PROGRAM])[3]).is_file():
+        sys.exit("the program is not there: rt check fit builds it")
     sys.exit(main(int(sys.argv[1]), int(sys.argv[2]), *sys.argv[3:]))

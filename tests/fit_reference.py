@@ -8,6 +8,8 @@ from reference import compare
 
 LARGEST_INPUT = 16 * 1024
 LARGEST_COUNT = 256
+# A list that comparing refuses for its number of corners.
+TOO_MANY = [0, 0] * (LARGEST_COUNT + 1)
 ALLOWANCE = 512
 NUMBER = re.compile(rb"-?[0-9]{1,5}")
 
@@ -48,11 +50,6 @@ def read(data):
     return a, b
 
 
-def too_many():
-    """A list that comparing refuses for its number of corners."""
-    return [0, 0] * (LARGEST_COUNT + 1)
-
-
 def printed(text):
     """What `compare` says, as the program prints it: a refusal as it is, and five lines when done."""
     if text.startswith("refused"):
@@ -64,7 +61,7 @@ def printed(text):
 
 def fit(data):
     try:
-        a, b = (too_many() if numbers is None else numbers for numbers in read(data))
+        a, b = (TOO_MANY if numbers is None else numbers for numbers in read(data))
     except Unreadable:
         return b"unreadable\n"
     return printed(compare(a, b, ALLOWANCE)).encode()

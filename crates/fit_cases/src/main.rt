@@ -7,6 +7,8 @@ ghost use lib.ListN.{length};
 
 const END: u8 = 255;
 
+const ROOM: usize = 262144;
+
 // Where the case that starts at a place ends.
 fn case_end(s: &[u8], from: usize) -> usize
     requires { ⌜ from ≤ length (now s) ⌝ }
@@ -32,10 +34,10 @@ fn respond_each(s: &[u8]) {
 }
 
 // Room for the input. The contract has the length alone, not the list of all the zeros.
-fn room() -> [u8; 262144]
+fn room() -> [u8; ROOM]
     ensures { λ r. ⌜ 262144 ≡ length r ⌝ }
 {
-    [0; 262144]
+    [0; ROOM]
 }
 
 fn main() {

@@ -1,11 +1,12 @@
 -- How long the lines are at the most.
 --     refusal-fits, done-fits    a refusal and the five lines fit a text
-use Prim.Native.Nat.{ℕ, suc, _≤_}
-use mathlib.Core.List.{List, _++_}
+use Prim.Native.Nat.{ℕ, suc, _+_, _≤_}
+use mathlib.Core.List.{List}
 use native.Mathlib.Omega.{arith}
 use lib.IntN.{ℤ, pos, negsuc}
 use lib.ListN.{length, length-append}
 use Rattle.integers.specs.declared.fraction.Fraction.{Fraction}
+use Rattle.text.specs.Ascii.{ascii}
 use Rattle.text.specs.Decimal.{decimal, signedDecimal}
 use Rattle.text.specs.Output.{room}
 use Rattle.text.proofs.DecimalLaws.{digits-short}
@@ -20,7 +21,8 @@ use Rattle.hausdorff.specs.declared.Side.{Side}
 use Rattle.hausdorff.specs.declared.Side.the-variants.{A, B}
 use Rattle.hausdorff.specs.declared.CornerGap.{CornerGap}
 use Rattle.hausdorff.specs.declared.Done.{Done as DoneReport}
-use Rattle.fit_lines.specs.Lines.{refusedSideText, placeText, refusalText, gapText, clearanceText, sideText, featureText, fromText, coordinateText, toText, stepsText, doneText}
+use Rattle.fit_lines.specs.Lines.{refusedSideText, placeText, refusalText, gapText, numberLine, sideText, featureText}
+use Rattle.fit_lines.specs.Lines.{fromText, coordinateText, toText, doneText}
 
 -- a number has at most 20 digits
 decimal-fits : (n : ℕ) → length (decimal n) ≤ 20
@@ -49,9 +51,9 @@ gap-fits : (g : Fraction) → length (gapText g) ≤ 46
 unfolding gapText
 gap-fits g = simp length-append (omega (arith, decimal-fits (g .upper), decimal-fits (g .lower)))
 
-clearance-fits : (m : ℕ) → length (clearanceText m) ≤ 24
-unfolding clearanceText
-clearance-fits m = simp length-append (omega (arith, decimal-fits m))
+line-fits : (word : List ℕ) (n : ℕ) → length (numberLine word n) ≤ length word + 21
+unfolding numberLine
+line-fits word n = simp length-append (omega (arith, decimal-fits n))
 
 side-fits : (s : Side) → length (sideText s) ≤ 1
 side-fits A = omega arith
@@ -74,14 +76,22 @@ to-fits : (w : CornerGap) → length (toText w) ≤ 120
 unfolding toText
 to-fits w =
     simp length-append
-    (omega (arith, feature-fits (w .feature), coordinate-fits (w .point .x) (w .point .lower), coordinate-fits (w .point .y) (w .point .lower)))
-
-steps-fits : (n : ℕ) → length (stepsText n) ≤ 27
-unfolding stepsText
-steps-fits n = simp length-append (omega (arith, decimal-fits n))
+    (omega (
+      arith,
+      feature-fits (w .feature),
+      coordinate-fits (w .point .x) (w .point .lower),
+      coordinate-fits (w .point .y) (w .point .lower),
+    ))
 
 pub done-fits : (d : DoneReport) → length (doneText d) ≤ room
 unfolding doneText
 done-fits d =
     simp length-append
-    (omega (arith, gap-fits (d .answer .gap), clearance-fits (d .clearance), from-fits (d .answer), to-fits (d .answer), steps-fits (d .steps)))
+    (omega (
+      arith,
+      gap-fits (d .answer .gap),
+      line-fits (ascii "mm ") (d .clearance),
+      from-fits (d .answer),
+      to-fits (d .answer),
+      line-fits (ascii "steps ") (d .steps),
+    ))

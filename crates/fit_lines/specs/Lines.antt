@@ -10,7 +10,6 @@ use lib.IntN.{ℤ}
 use Rattle.integers.specs.declared.fraction.Fraction.{Fraction}
 use Rattle.text.specs.Ascii.{ascii}
 use Rattle.text.specs.Decimal.{decimal, signedDecimal}
-use Rattle.plane.specs.declared.Point.{Point}
 use Rattle.outline.specs.declared.Place.{Place}
 use Rattle.outline.specs.declared.Place.the-variants.{Nowhere, At, EdgeAndCorner}
 use Rattle.outline.specs.declared.Refusal.{Refusal}
@@ -42,8 +41,8 @@ refusalText r =
 unfoldable pub gapText : Fraction → List ℕ
 gapText g = ascii "gap " ++ decimal (g .upper) ++ ascii "/" ++ decimal (g .lower) ++ ascii "\n"
 
-unfoldable pub clearanceText : ℕ → List ℕ
-clearanceText m = ascii "mm " ++ decimal m ++ ascii "\n"
+unfoldable pub numberLine : List ℕ → ℕ → List ℕ
+numberLine word n = word ++ decimal n ++ ascii "\n"
 
 abbrev pub sideText : Side → List ℕ
 sideText A = ascii "A"
@@ -65,12 +64,9 @@ toText w =
     ascii "to " ++ featureText (w .feature) ++ ascii " at"
     ++ coordinateText (w .point .x) (w .point .lower) ++ coordinateText (w .point .y) (w .point .lower) ++ ascii "\n"
 
-unfoldable pub stepsText : ℕ → List ℕ
-stepsText n = ascii "steps " ++ decimal n ++ ascii "\n"
-
 unfoldable pub doneText : DoneReport → List ℕ
 doneText d =
-    gapText (d .answer .gap) ++ clearanceText (d .clearance) ++ fromText (d .answer) ++ toText (d .answer) ++ stepsText (d .steps)
+    gapText (d .answer .gap) ++ numberLine (ascii "mm ") (d .clearance) ++ fromText (d .answer) ++ toText (d .answer) ++ numberLine (ascii "steps ") (d .steps)
 
 abbrev pub comparisonText : Comparison → List ℕ
 comparisonText (Refused r) = refusalText r

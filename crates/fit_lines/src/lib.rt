@@ -8,12 +8,11 @@ use nearest::Feature;
 use outline::Place;
 use outline::Refusal;
 use outline::RefusedSide;
-use plane::Point;
 use text::output::Text;
 ghost use mathlib.Core.Path.{_≡_};
-ghost use lib.IntN.{ℤ};
 ghost use Rattle.text.specs.Output.{appended};
-ghost use Rattle.fit_lines.specs.Lines.{placeText, refusedSideText, refusalText, gapText, sideText, featureText, coordinateText, fromText, toText, clearanceText, stepsText, doneText, comparisonText};
+ghost use Rattle.fit_lines.specs.Lines.{refusedSideText, placeText, refusalText, gapText, numberLine, sideText, featureText};
+ghost use Rattle.fit_lines.specs.Lines.{fromText, coordinateText, toText, doneText, comparisonText};
 
 fn refused_side(t: Text, side: RefusedSide) -> Text
     ensures { λ r. ⌜ r ≡ appended t (refusedSideText side) ⌝ }
@@ -83,7 +82,7 @@ fn coordinate(t: Text, upper: i64, lower: u64) -> Text
     t.bytes(b" ").signed(upper).bytes(b"/").natural(lower)
 }
 
-// From which corner, and to which feature and point.
+// The line of the corner that the gap is from.
 fn from(t: Text, found: CornerGap) -> Text
     ensures { λ r. ⌜ r ≡ appended t (fromText found) ⌝ }
 {
@@ -93,6 +92,7 @@ fn from(t: Text, found: CornerGap) -> Text
         .bytes(b"\n")
 }
 
+// The line of what is nearest to it: the feature and the point.
 fn to(t: Text, found: CornerGap) -> Text
     ensures { λ r. ⌜ r ≡ appended t (toText found) ⌝ }
 {
@@ -103,16 +103,11 @@ fn to(t: Text, found: CornerGap) -> Text
     coordinate(t, point.y, point.lower).bytes(b"\n")
 }
 
-fn clearance(t: Text, figure: u64) -> Text
-    ensures { λ r. ⌜ r ≡ appended t (clearanceText figure) ⌝ }
+// A word and a number.
+fn number_line(t: Text, word: &[u8], n: u64) -> Text
+    ensures { λ r. ⌜ r ≡ appended t (numberLine (now (word .entry)) n) ⌝ }
 {
-    t.bytes(b"mm ").natural(figure).bytes(b"\n")
-}
-
-fn steps(t: Text, made: u32) -> Text
-    ensures { λ r. ⌜ r ≡ appended t (stepsText made) ⌝ }
-{
-    t.bytes(b"steps ").natural(made as u64).bytes(b"\n")
+    t.bytes(word).natural(n).bytes(b"\n")
 }
 
 fn done(t: Text, done: Done) -> Text
@@ -120,8 +115,8 @@ fn done(t: Text, done: Done) -> Text
 {
     let answer = done.answer;
     let distance = answer.gap;
-    let t = clearance(gap(t, distance), done.clearance);
-    steps(to(from(t, answer), answer), done.steps)
+    let t = number_line(gap(t, distance), b"mm ", done.clearance);
+    number_line(to(from(t, answer), answer), b"steps ", done.steps as u64)
 }
 
 // A refusal in one line, or the five lines of a comparison that is done. For one that is spent there are none.

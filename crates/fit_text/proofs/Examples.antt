@@ -1,7 +1,5 @@
 -- Worked examples: what the program writes for an input, by computing what the definitions give.
 use mathlib.Core.Path.{_≡_, refl}
-use mathlib.Core.List.{List}
-use Prim.Native.Nat.{ℕ}
 use Rattle.plane.specs.Range.{inRange}
 use Rattle.plane.specs.Vector.{_⇀_, cross, dot, same}
 use Rattle.outline.specs.Checks.{each}
@@ -21,10 +19,10 @@ use Rattle.text.specs.Decimal.{digits}
 use Rattle.text.specs.Number.{allDigits, valueFrom, natural, number}
 use Rattle.text.specs.Words.{wordsFrom}
 use Rattle.fit_text.specs.Input.{numbers, outline}
-use Rattle.fit_lines.specs.Lines.{refusalText, gapText, clearanceText, fromText, coordinateText, toText, stepsText, doneText}
+use Rattle.fit_lines.specs.Lines.{refusalText, gapText, numberLine, fromText, coordinateText, toText, doneText}
 use Rattle.fit_text.specs.Response.{response}
 
 -- document 01's example
 square-triangle : response (ascii "4 0 0 4 0 4 4 0 4 3 0 0 4 0 0 4") ≡ ascii "gap 256/32\nmm 2\nfrom A 2\nto edge 1 at 64/32 64/32\nsteps 7\n"
-unfolding inRange _⇀_ cross dot same each corners next outOfRange repeated notLeftOf notLeft check all firstOf feature isFirstHalf isBefore sameDirection _⇢_ rootBy precedes insert sort edgesBelow angularOrder own liesAt isCounted begin measured step steps report digits allDigits valueFrom natural number wordsFrom numbers outline refusalText gapText clearanceText fromText coordinateText toText stepsText doneText
+unfolding inRange _⇀_ cross dot same each corners next outOfRange repeated notLeftOf notLeft check all firstOf feature isFirstHalf isBefore sameDirection _⇢_ rootBy precedes insert sort edgesBelow angularOrder own liesAt isCounted begin measured step steps report digits allDigits valueFrom natural number wordsFrom numbers outline refusalText gapText numberLine fromText coordinateText toText doneText
 square-triangle = refl

@@ -6,8 +6,8 @@
 --     too-many-refused              the list that stands for an outline of too many corners gets 3
 --     given-case, has-room          what the code finds, by its case
 --     with-b-end, with-b-more       what is given for B, by whether words are left
-use Prim.Native.Nat.{ℕ, zero, suc, _+_, _-_, _*_, _≤_, _<_}
-use mathlib.Core.Bool.{Bool, true, false, false≢true}
+use Prim.Native.Nat.{ℕ, suc, _+_, _-_, _*_, _≤_, _<_}
+use mathlib.Core.Bool.{true, false, false≢true}
 use mathlib.Core.Path.{_≡_, refl, sym, ap, _∙_}
 use mathlib.Core.List.{List, [], _∷_, _++_, append-assoc, append-nil}
 use native.Mathlib.Numerals.{add-one}
@@ -18,41 +18,27 @@ use lib.IntN.{ℤ, pos, negsuc, natAbs}
 use lib.ListN.{length, take, drop, set, length-set}
 use lib.Seq.{take-suc-set}
 use lib.Signed.{ltZ, nonNeg}
-use Rattle.text.specs.declared.input.Parsed.{Parsed}
-use Rattle.text.specs.declared.input.Parsed.the-variants.{Number as IsNumber, Invalid}
-use Rattle.text.specs.First.{FirstNumber, Number, None, followed, firstNumber}
-use Rattle.text.specs.Number.{number}
+use Rattle.text.specs.First.{Number, None, firstNumber}
 use Rattle.text.specs.Words.{words, isEmpty}
 use Rattle.outline.specs.declared.Check.the-variants.{Failed}
 use Rattle.outline.specs.declared.Fault.the-variants.{TooManyCorners}
 use Rattle.outline.specs.Corners.{corners, most}
 use Rattle.outline.specs.Reading.{check}
 use Rattle.hausdorff.specs.Call.{comparison}
-use Rattle.fit_text.specs.declared.reading.Given.{Given as Found}
-use Rattle.fit_text.specs.declared.reading.Given.the-variants.{Numbers as FoundNumbers}
+use Rattle.fit_text.specs.declared.reading.Found.{Found}
+use Rattle.fit_text.specs.declared.reading.Found.the-variants.{Numbers as FoundNumbers}
 use Rattle.fit_text.specs.declared.reading.Outcome.the-variants.{Compared, Unreadable as OutcomeUnreadable}
-use Rattle.fit_text.specs.Input.{Given, Numbers, TooMany, Unreadable, before, numbers, counted, outline, allowance, tooMany, withB, asGiven, countOf}
-
--- a word that gives a number, with the words after it
-is-number : (ws : List (List ℕ)) (p : Parsed) {z : ℤ} {rest : List (List ℕ)}
-    → followed ws p ≡ Number z rest → (p ≡ IsNumber z) × (ws ≡ rest)
-is-number ws (IsNumber y) same = (cc, cc)
-is-number ws Invalid same = let no : _≡_ {A = ℕ} 0 1 = cc in absurd (omega arith)
-
-is-invalid : (ws : List (List ℕ)) (p : Parsed) → followed ws p ≡ None → p ≡ Invalid
-is-invalid ws (IsNumber y) same = let no : _≡_ {A = ℕ} 0 1 = cc in absurd (omega arith)
-is-invalid ws Invalid same = refl
+use Rattle.fit_text.specs.Input.{Given, Numbers, TooMany, Unreadable, put, numbers, outline}
+use Rattle.fit_text.specs.Input.{allowance, tooMany, withB, asGiven, countOf}
 
 numbers-next : (n : ℕ) (ws : List (List ℕ)) {z : ℤ} {rest : List (List ℕ)}
-    → firstNumber ws ≡ Number z rest → numbers (suc n) ws ≡ before (IsNumber z) (numbers n rest)
+    → firstNumber ws ≡ Number z rest → numbers (suc n) ws ≡ put z (numbers n rest)
 unfolding numbers
-numbers-next n [] first = let no : _≡_ {A = ℕ} 0 1 = cc in absurd (omega arith)
-numbers-next n (w ∷ ws) first = let (here, after) = is-number ws (number w) first in rw (here, after)
+numbers-next n ws first = rw first
 
 numbers-stop : (n : ℕ) (ws : List (List ℕ)) → firstNumber ws ≡ None → numbers (suc n) ws ≡ Unreadable
 unfolding numbers
-numbers-stop n [] first = refl
-numbers-stop n (w ∷ ws) first = rw (is-invalid ws (number w) first)
+numbers-stop n ws first = rw first
 
 -- numbers that are read already, before what is given
 abbrev after : List ℤ → Given → Given
@@ -60,10 +46,10 @@ after p (Numbers s ws) = Numbers (p ++ s) ws
 after p TooMany = TooMany
 after p Unreadable = Unreadable
 
-after-before : (p : List ℤ) (z : ℤ) (g : Given) → after p (before (IsNumber z) g) ≡ after (p ++ (z ∷ [])) g
-after-before p z (Numbers s ws) = rw append-assoc
-after-before p z TooMany = refl
-after-before p z Unreadable = refl
+after-put : (p : List ℤ) (z : ℤ) (g : Given) → after p (put z g) ≡ after (p ++ (z ∷ [])) g
+after-put p z (Numbers s ws) = rw append-assoc
+after-put p z TooMany = refl
+after-put p z Unreadable = refl
 
 after-nil : (g : Given) → g ≡ after [] g
 after-nil (Numbers s ws) = refl
@@ -98,7 +84,7 @@ module _ {s : List ℕ} {from n : ℕ} {out₀ out : List ℤ} {next i : ℕ} (r
         let here : i < length out = omega (arith, r .long, r .room) in
         let taken : take (i + 1) (set out i z) ≡ take i out ++ (z ∷ []) = rw add-one (take-suc-set out i z here) in
         rw (r .gives, left below, numbers-next (n - (i + 1)) (words (drop next s)) first, taken)
-        (after-before (take i out) z (numbers (n - (i + 1)) (words (drop past s))));
+        (after-put (take i out) z (numbers (n - (i + 1)) (words (drop past s))));
   }
 
   pub not-read : i < n → firstNumber (words (drop next s)) ≡ None → Unreadable ≡ numbers n (words (drop from s))
@@ -111,29 +97,25 @@ module _ {s : List ℕ} {from n : ℕ} {out₀ out : List ℤ} {next i : ℕ} (r
       let none : n - n ≡ 0 = omega arith in
       rw (r .gives, same, none, append-nil)
 
-pub outline-stop : (ws : List (List ℕ)) → firstNumber ws ≡ None → Unreadable ≡ outline ws
-unfolding outline
-outline-stop [] first = refl
-outline-stop (w ∷ ws) first = rw (is-invalid ws (number w) first)
-
--- the first word is a corner count
-outline-first : (ws : List (List ℕ)) {z : ℤ} {rest : List (List ℕ)} → firstNumber ws ≡ Number z rest → outline ws ≡ counted rest (IsNumber z)
-unfolding outline
-outline-first [] first = let no : _≡_ {A = ℕ} 0 1 = cc in absurd (omega arith)
-outline-first (w ∷ ws) first = let (here, after) = is-number ws (number w) first in rw (here, after)
-
 module _ (ws : List (List ℕ)) where
+  pub outline-stop : firstNumber ws ≡ None → Unreadable ≡ outline ws
+  unfolding outline
+  outline-stop first = rw first
+
   pub outline-negative : (z : ℤ) {rest : List (List ℕ)} → firstNumber ws ≡ Number z rest → ltZ z (pos 0) ≡ true → Unreadable ≡ outline ws
+  unfolding outline
   outline-negative (pos n) first below = absurd (omega (arith, ltb-true n 0 below))
-  outline-negative (negsuc n) first below = rw (outline-first ws first)
+  outline-negative (negsuc n) first below = rw first
 
   pub outline-many : (z : ℤ) {rest : List (List ℕ)} → firstNumber ws ≡ Number z rest → ltZ (pos most) z ≡ true → TooMany ≡ outline ws
-  outline-many (pos n) first above = rw (outline-first ws first, above)
+  unfolding outline
+  outline-many (pos n) first above = rw (first, above)
   outline-many (negsuc n) first above = absurd (false≢true above)
 
   pub outline-counted : (z : ℤ) {rest : List (List ℕ)} → firstNumber ws ≡ Number z rest
       → ltZ z (pos 0) ≡ false → ltZ (pos most) z ≡ false → numbers (2 * natAbs z) rest ≡ outline ws
-  outline-counted (pos n) first not-below not-above = rw (outline-first ws first, not-above)
+  unfolding outline
+  outline-counted (pos n) first not-below not-above = rw (first, not-above)
   outline-counted (negsuc n) first not-below not-above = absurd (false≢true (sym not-below))
 
 -- a count that is taken

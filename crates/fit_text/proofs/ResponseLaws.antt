@@ -62,12 +62,6 @@ response-laid-down s = by-length (ltb mostBytes (length s))
     by-length true = unreadable refl
     by-length false = a-laid-down (outline (words s))
 
-outcome-fits : (o : Outcome) → length (outcomeText o) ≤ room
-outcome-fits (Compared (Refused r)) = refusal-fits r
-outcome-fits (Compared (Spent s)) = omega arith
-outcome-fits (Compared (Done d)) = done-fits d
-outcome-fits Unreadable = omega arith
-
 -- so the program need not read more than one byte above the limit
 pub response-start : (s : List ℕ) → response (take (suc mostBytes) s) ≡ response s
 response-start s = by-length (ltb mostBytes (length s)) refl
@@ -80,4 +74,9 @@ response-start s = by-length (ltb mostBytes (length s)) refl
     by-length false short = rw (take-all (suc mostBytes) s (omega (arith, ltb-false mostBytes (length s) short)))
 
 pub response-fits : (s : List ℕ) → length (response s) ≤ room
-response-fits s = outcome-fits (judged s)
+response-fits s = by-text (response-laid-down s)
+  where
+    by-text : {t : List ℕ} → LaidDown t → length t ≤ room
+    by-text (unreadable is) = rw is (omega arith)
+    by-text (refused r is) = rw is (refusal-fits r)
+    by-text (done d is) = rw is (done-fits d)

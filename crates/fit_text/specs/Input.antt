@@ -1,58 +1,60 @@
 -- Document 01: what the fit program reads.
---     numbers       so many numbers, one a word
---     outline       a corner count and the numbers of an outline. A count above 256 ends the reading
---     tooMany       a list of 257 corners: it stands for an outline whose count is above 256, which counts as 3 for its side
---                   (`too-many-refused` in `proofs/InputLaws.antt`)
---     withB, withA  what is given for B, where A's numbers are read, and for A. Nothing may stand after the numbers of B
---     outcome       what a text gives: a comparison in at most 512 steps, or it cannot be read
+--     Given            what a text gives for one outline: its numbers and the words after them, or a count above 256, or it cannot be read
+--     put, before      a number before what is given; the first number and what the words after it give
+--     numbers          so many numbers, one a word
+--     counted, outline    a corner count and the numbers of an outline. A count above 256 ends the reading
+--     allowance        how many steps are allowed
+--     tooMany          a list of 257 corners: it stands for an outline whose count is above 256, which counts as 3 for its side
+--                      (`too-many-refused` in `proofs/InputLaws.antt`)
+--     withB, withA     the outcome, by what is given for B once A's numbers are read, and by what is given for A. Nothing may stand after
+--                      the numbers of B
+--     outcome          what a text gives: a comparison in at most 512 steps, or it cannot be read
 -- For the code:
---     asGiven       what it finds in a text and writes to a list, as a `Given`
---     countOf       how many numbers it finds
+--     asGiven          what it finds in a text and writes to a list, as a `Given`
+--     countOf          how many numbers it finds
 use Prim.Native.Nat.{ℕ, zero, suc, _+_, _*_}
 use mathlib.Core.Bool.{cond}
 use mathlib.Core.List.{List, [], _∷_}
 use lib.Dec.{ltb}
 use lib.IntN.{ℤ, pos, negsuc}
 use lib.ListN.{replicate, take, drop}
-use Rattle.text.specs.declared.input.Parsed.{Parsed}
-use Rattle.text.specs.declared.input.Parsed.the-variants.{Number, Invalid}
-use Rattle.text.specs.Number.{number}
+use Rattle.text.specs.First.{FirstNumber, Number, None, firstNumber}
 use Rattle.text.specs.Words.{words}
 use Rattle.outline.specs.Corners.{most}
 use Rattle.hausdorff.specs.Call.{comparison}
 use Rattle.fit_text.specs.declared.reading.Outcome.{Outcome}
 use Rattle.fit_text.specs.declared.reading.Outcome.the-variants.{Compared, Unreadable as OutcomeUnreadable}
-use Rattle.fit_text.specs.declared.reading.Given.{Given as Found}
-use Rattle.fit_text.specs.declared.reading.Given.the-variants.{Numbers as FoundNumbers, TooMany as FoundTooMany, Unreadable as FoundUnreadable}
+use Rattle.fit_text.specs.declared.reading.Found.{Found}
+use Rattle.fit_text.specs.declared.reading.Found.the-variants.{Numbers as FoundNumbers}
+use Rattle.fit_text.specs.declared.reading.Found.the-variants.{TooMany as FoundTooMany, Unreadable as FoundUnreadable}
 
--- what a text gives for one outline: its numbers and the words after them, or a count above 256, or it cannot be read
 pub data Given : Type 0 where
   Numbers : List ℤ → List (List ℕ) → Given
   TooMany : Given
   Unreadable : Given
 
--- a number before what is given
-abbrev pub before : Parsed → Given → Given
-before (Number z) (Numbers s ws) = Numbers (z ∷ s) ws
-before (Number z) TooMany = TooMany
-before (Number z) Unreadable = Unreadable
-before Invalid g = Unreadable
+abbrev pub put : ℤ → Given → Given
+put z (Numbers s ws) = Numbers (z ∷ s) ws
+put z TooMany = TooMany
+put z Unreadable = Unreadable
 
 -- a missing number cannot be read
+abbrev pub before : FirstNumber → (List (List ℕ) → Given) → Given
+before (Number z ws) rest = put z (rest ws)
+before None rest = Unreadable
+
 unfoldable pub numbers : ℕ → List (List ℕ) → Given
 numbers zero ws = Numbers [] ws
-numbers (suc n) [] = Unreadable
-numbers (suc n) (w ∷ ws) = before (number w) (numbers n ws)
+numbers (suc n) ws = before (firstNumber ws) (λ rest. numbers n rest)
 
 -- nor can a negative count
-abbrev pub counted : List (List ℕ) → Parsed → Given
-counted ws (Number (pos n)) = let read = numbers (2 * n) ws in cond (ltb most n) TooMany read
-counted ws (Number (negsuc n)) = Unreadable
-counted ws Invalid = Unreadable
+abbrev pub counted : FirstNumber → Given
+counted (Number (pos n) ws) = let read = numbers (2 * n) ws in cond (ltb most n) TooMany read
+counted (Number (negsuc n) ws) = Unreadable
+counted None = Unreadable
 
 unfoldable pub outline : List (List ℕ) → Given
-outline [] = Unreadable
-outline (w ∷ ws) = counted ws (number w)
+outline ws = counted (firstNumber ws)
 
 -- how many steps are allowed
 abbrev pub allowance : ℕ

@@ -1,6 +1,6 @@
 -- Document 01: what the fit program writes.
 --     outcomeText    the lines of a comparison, or `unreadable`
---     judged         what an input gives; more than 16 KiB are unreadable, before anything else is judged
+--     judged         what an input gives; more than 16 KiB (`mostBytes`) are unreadable, before anything else is judged
 --     response       what the program writes for an input
 --     LaidDown       a text is `unreadable`, a refusal in one line, or the lines of a comparison that is done
 use Prim.Native.Nat.{ℕ}

@@ -1,5 +1,5 @@
 // The fit program on lists of bytes: from the bytes of its input to the bytes that it writes.
-pub mod reading;
+mod reading;
 
 use reading::Outcome;
 use text::output::Text;
@@ -10,7 +10,7 @@ ghost use Rattle.text.specs.Ascii.{ascii};
 ghost use Rattle.text.specs.Output.{held, room};
 ghost use Rattle.fit_text.specs.Response.{response};
 
-// The most bytes that are read: 16 KiB.
+// The longest input that is not unreadable: 16 KiB.
 const MOST_BYTES: usize = 16384;
 
 fn unreadable() -> Text

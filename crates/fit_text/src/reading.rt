@@ -5,7 +5,6 @@ use text::input;
 use text::input::Next;
 ghost use mathlib.Core.Path.{_≡_};
 ghost use Prim.Native.Nat.{_*_, _≤_};
-ghost use lib.IntN.{ℤ};
 ghost use lib.ListN.{length, drop};
 ghost use Rattle.text.specs.Words.{words};
 ghost use Rattle.outline.specs.Corners.{most};
@@ -18,7 +17,7 @@ const ALLOWANCE: u32 = 512;
 const MOST_NUMBERS: usize = 2 * MOST;
 
 // What a text gives for an outline: how many numbers, and the place after them; a count above 256; or what cannot be read.
-pub enum Given {
+pub enum Found {
     Numbers(usize, usize),
     TooMany,
     Unreadable,
@@ -31,7 +30,7 @@ pub enum Outcome {
 }
 
 // Reads n numbers to a list.
-fn numbers(s: &[u8], from: usize, n: usize, out: &mut [i32]) -> Given
+fn numbers(s: &[u8], from: usize, n: usize, out: &mut [i32]) -> Found
     requires { ⌜ n ≤ length (now out) ⌝ }
     ensures room { λ r. ⌜ countOf r ≤ length (now (out .entry)) ⌝ }
     ensures given { λ r. ⌜ asGiven (now (s .entry)) (now (out .exit)) r ≡ numbers n (words (drop from (now (s .entry)))) ⌝ }
@@ -40,29 +39,29 @@ fn numbers(s: &[u8], from: usize, n: usize, out: &mut [i32]) -> Given
     let mut i = 0;
     while i < n {
         let Next::Number(value, after) = input::next_number(s, next) else {
-            return Given::Unreadable;
+            return Found::Unreadable;
         };
         out[i] = value;
         next = after;
         i += 1;
     }
-    Given::Numbers(n, next)
+    Found::Numbers(n, next)
 }
 
 // Reads a corner count and the numbers of an outline to a list.
-fn outline(s: &[u8], from: usize, out: &mut [i32]) -> Given
+fn outline(s: &[u8], from: usize, out: &mut [i32]) -> Found
     requires { ⌜ 2 * most ≤ length (now out) ⌝ }
     ensures room { λ r. ⌜ countOf r ≤ length (now (out .entry)) ⌝ }
     ensures given { λ r. ⌜ asGiven (now (s .entry)) (now (out .exit)) r ≡ outline (words (drop from (now (s .entry)))) ⌝ }
 {
     let Next::Number(count, after) = input::next_number(s, from) else {
-        return Given::Unreadable;
+        return Found::Unreadable;
     };
     if count < 0 {
-        return Given::Unreadable;
+        return Found::Unreadable;
     }
     if (MOST as i32) < count {
-        return Given::TooMany;
+        return Found::TooMany;
     }
     numbers(s, after, 2 * (count as usize), out)
 }
@@ -87,9 +86,9 @@ fn with_b(a: &[i32], s: &[u8], from: usize) -> Outcome
 {
     let mut b = no_numbers();
     match outline(s, from, &mut b) {
-        Given::Unreadable => Outcome::Unreadable,
-        Given::TooMany => Outcome::Compared(calls::compare(a, &too_many(), ALLOWANCE)),
-        Given::Numbers(n, next) => {
+        Found::Unreadable => Outcome::Unreadable,
+        Found::TooMany => Outcome::Compared(calls::compare(a, &too_many(), ALLOWANCE)),
+        Found::Numbers(n, next) => {
             if !input::is_at_end(s, next) {
                 return Outcome::Unreadable;
             }
@@ -104,8 +103,8 @@ pub fn read(s: &[u8]) -> Outcome
 {
     let mut a = no_numbers();
     match outline(s, 0, &mut a) {
-        Given::Unreadable => Outcome::Unreadable,
-        Given::TooMany => Outcome::Compared(calls::compare(&too_many(), &[], ALLOWANCE)),
-        Given::Numbers(n, next) => with_b(&a[..n], s, next),
+        Found::Unreadable => Outcome::Unreadable,
+        Found::TooMany => Outcome::Compared(calls::compare(&too_many(), &[], ALLOWANCE)),
+        Found::Numbers(n, next) => with_b(&a[..n], s, next),
     }
 }

@@ -47,36 +47,36 @@ use Rattle.hausdorff.specs.Law.{OfDone, OfSpent}
 use Rattle.hausdorff.specs.Call.{IsComparison}
 use Rattle.hausdorff.proofs.CallLaws.{both-accepted, reported-means}
 use Rattle.hausdorff.proofs.WorstLaws.{support-known}
-use Rattle.hausdorff.specs.Sizes.{Fit, FitNearest, FitCorner, FitWorst, FitDone, FitSpent}
+use Rattle.hausdorff.specs.Sizes.{FitsI64, NearestFits, CornerFits, WorstFits, DoneFits, SpentFits}
 
 -- a number of known size
-size-fits : {b : ℕ} {z : ℤ} → AtMost b z → T (ltb b (2 ^ 63)) → Fit (natAbs z)
-size-fits {b} bound small = lt-of-le-of-lt (bound .size) (ltb→lt b (2 ^ 63) small)
+bounded-fits : {b : ℕ} {z : ℤ} → AtMost b z → T (ltb b (2 ^ 63)) → FitsI64 (natAbs z)
+bounded-fits {b} bound small = lt-of-le-of-lt (bound .size) (ltb→lt b (2 ^ 63) small)
 
 module _ {cs : List Corner} (ok : Accepted cs) where
   -- a corner's number
-  number-fits : (i : ℕ) → i < length cs → Fit i
+  number-fits : (i : ℕ) → i < length cs → FitsI64 i
   number-fits i below = lt-of-lt-of-le below (le-trans (ok .at-most) (lit≤ tt))
 
   module _ {v : Corner} (in-range : InRange v) where
     -- a squared distance and a squared length are at most 2,048,000,000, and a side number too
-    values-fit : (y : Point) (f : Feature) → Fits cs (whole v) y f → FitNearest (values cs v f)
+    values-fit : (y : Point) (f : Feature) → Fits cs (whole v) y f → NearestFits (values cs v f)
     values-fit y Within h = record { feature = tt; upper = lit< tt; lower = lit< tt; point-lower = lit< tt }
     values-fit y (AtCorner i) (outside, below, same) =
         let to = span-⇀ (ok .in-range i below) in-range in
-        record { feature = number-fits i below; upper = size-fits (dot-is to to .bound) tt; lower = lit< tt; point-lower = lit< tt }
+        record { feature = number-fits i below; upper = bounded-fits (dot-is to to .bound) tt; lower = lit< tt; point-lower = lit< tt }
     values-fit y (OnEdge i) (outside, below, between) =
         let p = ok .in-range i below in
         let q = ok .in-range _ (next-below (length cs) i (omega arith)) in
         let side = atMost-side p q in-range in
-        let long = size-fits (dot-is (span-⇀ p q) (span-⇀ p q) .bound) tt in
-        record { feature = number-fits i below; upper = size-fits (atMost-* side side) tt; lower = long; point-lower = long }
+        let long = bounded-fits (dot-is (span-⇀ p q) (span-⇀ p q) .bound) tt in
+        record { feature = number-fits i below; upper = bounded-fits (atMost-* side side) tt; lower = long; point-lower = long }
 
-    answers-fit : {a : NearestPoint} → Answers cs v a → FitNearest a
+    answers-fit : {a : NearestPoint} → Answers cs v a → NearestFits a
     answers-fit {a} is =
-        subst (λ (x : NearestPoint). FitNearest x) (sym (is .written)) (values-fit (a .point) (a .feature) (is .fits))
+        subst (λ (x : NearestPoint). NearestFits x) (sym (is .written)) (values-fit (a .point) (a .feature) (is .fits))
 
-pub found-fits : (v : Corner) (s : List ℤ) {a : NearestPoint} → nearestAnswer v s ≡ Found a → FitNearest a
+pub found-fits : (v : Corner) (s : List ℤ) {a : NearestPoint} → nearestAnswer v s ≡ Found a → NearestFits a
 found-fits v s {a} is =
     let (ok, in-range, answers) = call-answers v s a .0 is in answers-fit (ok .1) in-range answers
 
@@ -87,17 +87,17 @@ root-small (suc m) l positive =
     le-trans (le-mul-of-pos-right (suc m) (omega arith)) (le-mul-of-pos-right (suc m * suc m) positive)
 
 module _ {pair : Pair} (ok : AcceptedPair pair) where
-  corner-fits : {w : CornerGap} → IsGap pair w → FitCorner w
+  corner-fits : {w : CornerGap} → IsGap pair w → CornerFits w
   corner-fits {w} is = record {
     corner = number-fits (ok (w .side)) (w .corner) (is .known);
     nearest = answers-fit (ok (other (w .side))) (ok (w .side) .in-range (w .corner) (is .known)) (is .answers);
   }
 
-  worst-fits : (x : WorstSoFar) → ((w : CornerGap) → x ≡ Worst w → IsGap pair w) → FitWorst x
+  worst-fits : (x : WorstSoFar) → ((w : CornerGap) → x ≡ Worst w → IsGap pair w) → WorstFits x
   worst-fits None is = tt
   worst-fits (Worst w) is = corner-fits (is w refl)
 
-  of-done-fits : {n : ℕ} {d : Done} → OfDone pair n d → FitDone d
+  of-done-fits : {n : ℕ} {d : Done} → OfDone pair n d → DoneFits d
   of-done-fits {d} of =
       let answer = corner-fits (of .as-defined .is-gap) in record {
         answer = answer;
@@ -105,10 +105,10 @@ module _ {pair : Pair} (ok : AcceptedPair pair) where
             (of .clearance-figure .not-above)) (answer .nearest .upper);
       }
 
-  support-fits : (k : ℕ) (s : Side) → Fit (after pair k .support s)
+  support-fits : (k : ℕ) (s : Side) → FitsI64 (after pair k .support s)
   support-fits k s = number-fits (ok s) _ (support-known pair (λ t. accepted-polygon (ok t)) k s)
 
-  of-spent-fits : {n : ℕ} {p : Spent} → OfSpent pair n p → FitSpent p
+  of-spent-fits : {n : ℕ} {p : Spent} → OfSpent pair n p → SpentFits p
   of-spent-fits {n} {p} of = record {
     support-a = rw (of .laid-down) (support-fits n A);
     support-b = rw (of .laid-down) (support-fits n B);
@@ -116,12 +116,12 @@ module _ {pair : Pair} (ok : AcceptedPair pair) where
   }
 
 module _ (s t : List ℤ) (allowance : ℕ) where
-  pub done-fits : {d : Done} → IsComparison s t allowance (IsDone d) → FitDone d
+  pub done-fits : {d : Done} → IsComparison s t allowance (IsDone d) → DoneFits d
   done-fits {d} is =
       let (ok-a, (ok-b, lawful)) = reported-means s t allowance (ReportDone d) is in
       of-done-fits (both-accepted _ _ (ok-a .1) (ok-b .1)) (lawful .of-done d refl)
 
-  pub spent-fits : {p : Spent} → IsComparison s t allowance (IsSpent p) → FitSpent p
+  pub spent-fits : {p : Spent} → IsComparison s t allowance (IsSpent p) → SpentFits p
   spent-fits {p} is =
       let (ok-a, (ok-b, lawful)) = reported-means s t allowance (ReportSpent p) is in
       of-spent-fits (both-accepted _ _ (ok-a .1) (ok-b .1)) (lawful .of-spent p refl)

@@ -11,7 +11,7 @@ pub fn natural(n: u64) {
     io::print_decimal(STDOUT_FILENO, n);
 }
 
-// A text that is held.
+// Writes a text.
 pub fn held(t: Text)
     requires { ⌜ IsText t ⌝ }
 {

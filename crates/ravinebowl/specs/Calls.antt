@@ -1,6 +1,6 @@
 -- What each call returns, and what it leaves in the list that it may write.
 --     nearestLength, compareLength            how long a result list must be
---     ifOfLength                                  one value where a list has the right length, another where not
+--     ifOfLength                              one value where a list has the right length, another where not
 --     statusOfComparison, listOfComparison    by what comparing answers: the status, and the result list, given what it held before
 --     compareStatus, compareList              of `ravinebowl_compare`
 --     statusOfNearest, listOfNearest          the same for the nearest point

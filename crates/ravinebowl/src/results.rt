@@ -11,7 +11,7 @@ ghost use Prim.Native.Nat.{_^_, _<_};
 ghost use lib.IntN.{pos};
 ghost use lib.ListN.{length};
 ghost use Rattle.ravinebowl.specs.Results.{kindOf, numberOf, ofNearest, sideOf, ofCorner, ofWorst, row, ofDone, ofSpent};
-ghost use Rattle.hausdorff.specs.Sizes.{FitFeature, FitNearest, FitCorner, FitWorst, FitDone, FitSpent};
+ghost use Rattle.hausdorff.specs.Sizes.{FeatureFits, NearestFits, CornerFits, WorstFits, DoneFits, SpentFits};
 
 // How many numbers there are of a nearest point, of a corner with its gap, and of a comparison.
 pub const NEAREST_LENGTH: usize = 7;
@@ -49,7 +49,7 @@ fn kind_of(feature: Feature) -> i64
 
 // The number of a feature that has one.
 fn number_of(feature: Feature) -> i64
-    requires { ⌜ FitFeature feature ⌝ }
+    requires { ⌜ FeatureFits feature ⌝ }
     ensures { λ r. ⌜ r ≡ numberOf feature ⌝ }
 {
     match feature {
@@ -61,7 +61,7 @@ fn number_of(feature: Feature) -> i64
 
 // The numbers of a nearest point.
 pub fn of_nearest(a: NearestPoint) -> [i64; NEAREST_LENGTH]
-    requires { ⌜ FitNearest a ⌝ }
+    requires { ⌜ NearestFits a ⌝ }
     ensures { λ r. ⌜ r ≡ ofNearest a ⌝ }
 {
     let feature = a.feature;
@@ -88,7 +88,7 @@ fn side_of(side: Side) -> i64
 
 // The numbers of a corner with its gap.
 fn of_corner(w: CornerGap) -> [i64; CORNER_LENGTH]
-    requires { ⌜ FitCorner w ⌝ }
+    requires { ⌜ CornerFits w ⌝ }
     ensures { λ r. ⌜ r ≡ ofCorner w ⌝ }
 {
     let side = w.side;
@@ -115,7 +115,7 @@ fn of_corner(w: CornerGap) -> [i64; CORNER_LENGTH]
 
 // The numbers of the worst so far. Where there is none yet its side is 0.
 fn of_worst(worst: WorstSoFar) -> [i64; CORNER_LENGTH]
-    requires { ⌜ FitWorst worst ⌝ }
+    requires { ⌜ WorstFits worst ⌝ }
     ensures { λ r. ⌜ r ≡ ofWorst worst ⌝ }
 {
     match worst {
@@ -137,7 +137,7 @@ fn row(
     worst: WorstSoFar,
     clearance: i64,
 ) -> [i64; COMPARE_LENGTH]
-    requires { ⌜ FitWorst worst ⌝ }
+    requires { ⌜ WorstFits worst ⌝ }
     ensures { λ r. ⌜ r ≡ row kind steps «support_a» «support_b» worst clearance ⌝ }
 {
     let w = of_worst(worst);
@@ -161,7 +161,7 @@ fn row(
 
 // The numbers of a comparison that is done.
 pub fn of_done(d: Done) -> [i64; COMPARE_LENGTH]
-    requires { ⌜ FitDone d ⌝ }
+    requires { ⌜ DoneFits d ⌝ }
     ensures { λ r. ⌜ r ≡ ofDone d ⌝ }
 {
     let answer = d.answer;
@@ -177,7 +177,7 @@ pub fn of_done(d: Done) -> [i64; COMPARE_LENGTH]
 
 // The numbers of a comparison that is spent.
 pub fn of_spent(p: Spent) -> [i64; COMPARE_LENGTH]
-    requires { ⌜ FitSpent p ⌝ }
+    requires { ⌜ SpentFits p ⌝ }
     ensures { λ r. ⌜ r ≡ ofSpent p ⌝ }
 {
     let worst = p.worst;

@@ -3,7 +3,7 @@
 --     all-digits-cons, first-digit    all are digits: the first is one, and so are the others
 --     all-digits-next, value-next    the digits from a place on, by the first of them
 --     all-digits-append, value-append, value-snoc    digits after others; one digit after others is one digit more
---     with-digit-below     one digit more makes a number at most ten times as large
+--     with-digit-below     a number below 10 ^ k with one digit more is below 10 ^ (k + 1)
 --     value-below          k digits have a value below 10 ^ k
 --     natural-empty, natural-long    no byte, and more than five, give no number
 --     natural-is, natural-short      what one to five bytes give, by whether all are digits; it is short

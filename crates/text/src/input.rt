@@ -2,7 +2,6 @@
 ghost use Prim.Native.Nat.{_+_, _<_};
 ghost use mathlib.Core.Bool.{true};
 ghost use mathlib.Core.Path.{_≡_};
-ghost use lib.IntN.{ℤ};
 ghost use lib.ListN.{drop};
 ghost use Rattle.text.specs.Number.{isDigit, withDigit, natural, IsShort, signed, number};
 ghost use Rattle.text.specs.Words.{isSeparator, isOf, run, words, isEmpty};

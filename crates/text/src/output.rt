@@ -7,7 +7,7 @@ ghost use Rattle.text.specs.Decimal.{decimal, signedDecimal};
 ghost use Rattle.text.specs.Output.{held, pushed, appended};
 
 // How many bytes a text has room for.
-pub const ROOM: usize = 512;
+const ROOM: usize = 512;
 
 // A text as one value: how many bytes it has, and places for 512 of them, the unused ones zero.
 pub struct Text {
@@ -16,7 +16,7 @@ pub struct Text {
 }
 
 // The size of a number below 0. That of the least i64 is one more than an i64 holds.
-pub fn size(n: i64) -> u64
+fn size(n: i64) -> u64
     requires { ⌜ n <ℤ pos 0 ⌝ }
     ensures { λ r. ⌜ r ≡ natAbs n ⌝ }
 {
@@ -64,7 +64,7 @@ impl Text {
     pub fn natural(self, n: u64) -> Text
         ensures { λ r. ⌜ r ≡ appended self (decimal n) ⌝ }
     {
-        let digit = 48 + (n % 10) as u8;
+        let digit = b'0' + (n % 10) as u8;
         if n < 10 {
             return self.push(digit);
         }

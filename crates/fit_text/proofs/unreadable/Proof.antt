@@ -1,10 +1,8 @@
 -- `fit_text::unreadable` puts the word and a line end into an empty text.
 use borrow.Author.Needs.{needs}
-use mathlib.Core.List.{List, []}
+use mathlib.Core.List.{[]}
 use mathlib.Core.Path.{_≡_}
 use native.Mathlib.Omega.{arith}
-use Prim.Native.Nat.{ℕ, _≤_}
-use lib.ListN.{length}
 use Rattle.text.specs.declared.output.Text.{Text}
 use Rattle.text.specs.Ascii.{ascii}
 use Rattle.text.specs.Output.{held, appended}

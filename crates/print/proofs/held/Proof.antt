@@ -1,8 +1,7 @@
 -- `print::held` is safe: the bytes that a text has are among its places.
 use borrow.Author.Needs.{needs}
-use mathlib.Core.Path.{_≡_, sym}
 use native.Mathlib.Omega.{arith}
-use lib.ListN.{length, length-take}
+use lib.ListN.{length-take}
 use Rattle.print.proofs.held.Statement.{statement}
 use Rattle.print.proofs.held.Tie as tie
 

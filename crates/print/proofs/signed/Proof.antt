@@ -2,11 +2,7 @@
 use borrow.Author.Needs.{needs}
 use native.Mathlib.Omega.{arith}
 use mathlib.Core.List.{[]}
-use mathlib.Core.Path.{_≡_, subst⁻¹, ap, _∙_}
-use Prim.Native.Nat.{ℕ}
-use Rattle.text.specs.declared.output.Text.{Text}
-use Rattle.text.specs.Decimal.{signedDecimal}
-use Rattle.text.specs.Output.{held, IsText, appended}
+use Rattle.text.specs.Output.{held}
 use Rattle.text.proofs.OutputLaws.{appended-text, held-text}
 use Rattle.print.proofs.signed.Statement.{statement}
 use Rattle.print.proofs.signed.Tie as tie

@@ -31,6 +31,9 @@ returns-2 c =
     let first = sym (c .before .before .before .before .next-number .ensures) ∙ ap (asFirst _) (c .before .before .count .given .1) in
     (omega arith, outline-negative _ _ first (rw (toZ-ofZ z-fits) at (c .if1 .taken)))
 
+cast-if2 : tie.Need-cast-if2
+cast-if2 c = search needs
+
 returns-3 : tie.Need-returns-3
 returns-3 c =
     let z-fits : SFits w32 (c .before .before .before .count .given .0 .0) = search sfits-of in
@@ -76,6 +79,7 @@ outline-spec =
     enum-told
     returns
     returns-2
+    cast-if2
     returns-3
     cast-numbers
     mul-numbers

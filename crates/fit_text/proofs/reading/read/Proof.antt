@@ -1,11 +1,13 @@
 -- `fit_text::reading::read` goes by what the text gives for A.
 use borrow.Author.Needs.{needs}
-use mathlib.Core.Path.{ap}
+use mathlib.Core.List.{List, []}
+use mathlib.Core.Path.{ap, _∙_}
 use native.Mathlib.Omega.{arith}
+use lib.IntN.{ℤ}
 use lib.ListN.{length-take}
-use Rattle.outline.specs.declared.Refusal.{Refusal}
-use Rattle.hausdorff.specs.declared.Comparison.the-variants.{Refused}
+use Rattle.hausdorff.specs.Call.{comparison}
 use Rattle.fit_text.specs.declared.reading.Outcome.the-variants.{Compared}
+use Rattle.fit_text.specs.Input.{allowance}
 use Rattle.fit_text.proofs.InputLaws.{given-case, has-room}
 use Rattle.fit_text.proofs.reading.read.Statement.{statement}
 use Rattle.fit_text.proofs.reading.read.Tie as tie
@@ -25,8 +27,17 @@ enum-told c = search needs
 enum-told-2 : tie.Need-enum-told-2
 enum-told-2 c = search needs
 
-refusal-requires : tie.Need-refusal-requires
-refusal-requires c κs = search needs
+too-many-requires : tie.Need-too-many-requires
+too-many-requires c κs = search needs
+
+slice-aggregate-compare : tie.Need-slice-aggregate-compare
+slice-aggregate-compare c = search needs
+
+slice-aggregate-compare-2 : tie.Need-slice-aggregate-compare-2
+slice-aggregate-compare-2 c = search needs
+
+compare-requires : tie.Need-compare-requires
+compare-requires c κs = search needs
 
 enum-known-n : tie.Need-enum-known-n
 enum-known-n c = search needs
@@ -45,12 +56,13 @@ with-b-requires : tie.Need-with-b-requires
 with-b-requires c κs = search needs
 
 returns : tie.Need-returns
-returns c = rw (given-case _ _ _ (c .before .before .before .outline .ensures .1) (c .enum-told .given .1))
+returns c =
+    rw (given-case _ _ _ (c .before .before .before .outline .ensures .1) (c .enum-told .given .1))
 
 returns-2 : tie.Need-returns-2
 returns-2 c =
-    let given = given-case _ _ _ (c .before .before .before .before .outline .ensures .1) (c .before .enum-told2 .given .1) in
-    rw given (ap (λ (r : Refusal). Compared (Refused r)) (c .refusal .ensures))
+    let given = given-case _ _ _ (c .before .before .before .before .before .before .before .outline .ensures .1) (c .before .before .before .before .enum-told2 .given .1) in
+    rw given (ap Compared (c .compare .ensures .0 ∙ ap (λ (s : List ℤ). comparison s [] allowance) (c .before .before .before .too-many .ensures)))
 
 returns-3 : tie.Need-returns-3
 returns-3 c =
@@ -66,7 +78,10 @@ read-spec =
     outline-requires
     enum-told
     enum-told-2
-    refusal-requires
+    too-many-requires
+    slice-aggregate-compare
+    slice-aggregate-compare-2
+    compare-requires
     enum-known-n
     array-share-prefix-a
     slice-aggregate-with-b

@@ -1,10 +1,14 @@
 -- `fit_text::reading::with_b` goes by what the text gives for B, and then by whether words are left.
 use borrow.Author.Needs.{needs}
 use borrow.Author.Tests.{not-true, not-false}
+use mathlib.Core.List.{List}
 use mathlib.Core.Path.{sym, ap, _∙_}
 use native.Mathlib.Omega.{arith}
+use lib.IntN.{ℤ}
 use lib.ListN.{length-take}
+use Rattle.hausdorff.specs.Call.{comparison}
 use Rattle.fit_text.specs.declared.reading.Outcome.the-variants.{Compared}
+use Rattle.fit_text.specs.Input.{allowance}
 use Rattle.fit_text.proofs.InputLaws.{given-case, has-room, with-b-end, with-b-more}
 use Rattle.fit_text.proofs.reading.with_b.Statement.{statement}
 use Rattle.fit_text.proofs.reading.with_b.Tie as tie
@@ -24,8 +28,14 @@ enum-told c = search needs
 enum-told-2 : tie.Need-enum-told-2
 enum-told-2 c = search needs
 
-too-many-of-b-requires : tie.Need-too-many-of-b-requires
-too-many-of-b-requires c κs = search needs
+too-many-requires : tie.Need-too-many-requires
+too-many-requires c κs = search needs
+
+slice-aggregate-compare : tie.Need-slice-aggregate-compare
+slice-aggregate-compare c = search needs
+
+compare-requires : tie.Need-compare-requires
+compare-requires c κs = search needs
 
 enum-known-n : tie.Need-enum-known-n
 enum-known-n c = search needs
@@ -43,27 +53,29 @@ array-share-prefix-b c =
     let called = c .before .before .before .before .before .before .outline in
     omega (arith, has-room (c .before .before .before .n .given .1) (called .ensures .0), called .kept .1 .1 .0)
 
-slice-aggregate-compare : tie.Need-slice-aggregate-compare
-slice-aggregate-compare c =
+slice-aggregate-compare-2 : tie.Need-slice-aggregate-compare-2
+slice-aggregate-compare-2 c =
     let called = c .before .before .before .before .before .before .before .outline in
     rw length-take (omega (arith, has-room (c .before .before .before .before .n .given .1) (called .ensures .0), called .kept .1 .1 .0))
 
-compare-requires : tie.Need-compare-requires
-compare-requires c κs = search needs
+compare-requires-2 : tie.Need-compare-requires-2
+compare-requires-2 c κs = search needs
 
 returns-2 : tie.Need-returns-2
-returns-2 c = rw (given-case _ _ _ (c .before .before .before .outline .ensures .1) (c .enum-told .given .1))
+returns-2 c =
+    rw (given-case _ _ _ (c .before .before .before .outline .ensures .1) (c .enum-told .given .1))
 
 returns-3 : tie.Need-returns-3
 returns-3 c =
-    let given = given-case _ _ _ (c .before .before .before .before .outline .ensures .1) (c .before .enum-told2 .given .1) in
-    rw given (ap Compared (c .too-many-of-b .ensures))
+    let a = c .before .before .before .before .before .before .before .before .before .before .args .a .now in
+    let given = given-case _ _ _ (c .before .before .before .before .before .before .outline .ensures .1) (c .before .before .before .enum-told2 .given .1) in
+    rw given (ap Compared (c .compare .ensures .0 ∙ ap (λ (t : List ℤ). comparison a t allowance) (c .before .before .too-many .ensures)))
 
 returns-4 : tie.Need-returns-4
 returns-4 c =
     let given = given-case _ _ _ (c .before .before .before .before .before .before .before .before .outline .ensures .1) (c .before .before .before .before .before .n .given .1) in
     let end = sym (c .before .before .before .is-at-end .ensures) ∙ not-false _ (c .before .before .if1 .left) in
-    ap Compared (c .compare .ensures .0) ∙ with-b-end _ _ given end
+    ap Compared (c .compare2 .ensures .0) ∙ with-b-end _ _ given end
 
 pub with-b-spec : {M : Type 1} → statement M
 with-b-spec =
@@ -74,13 +86,15 @@ with-b-spec =
     outline-requires
     enum-told
     enum-told-2
-    too-many-of-b-requires
+    too-many-requires
+    slice-aggregate-compare
+    compare-requires
     enum-known-n
     is-at-end-requires
     returns
     array-share-prefix-b
-    slice-aggregate-compare
-    compare-requires
+    slice-aggregate-compare-2
+    compare-requires-2
     returns-2
     returns-3
     returns-4)

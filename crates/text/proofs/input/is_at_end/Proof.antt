@@ -1,6 +1,5 @@
 -- `text::input::is_at_end` looks whether the separators that stand there go on to the end.
 use borrow.Author.Needs.{needs}
-use mathlib.Core.Path.{_∙_}
 use Rattle.text.proofs.WordLaws.{at-end}
 use Rattle.text.proofs.input.is_at_end.Statement.{statement}
 use Rattle.text.proofs.input.is_at_end.Tie as tie

@@ -1,5 +1,4 @@
 -- `text::input::is_digit` makes both tests.
-use mathlib.Core.Path.{refl}
 use borrow.Author.Tests.{le-leb, lt-leb}
 use Rattle.text.proofs.input.is_digit.Statement.{statement}
 use Rattle.text.proofs.input.is_digit.Tie as tie

@@ -1,5 +1,4 @@
 -- `text::input::is_separator` makes both tests.
-use mathlib.Core.Path.{refl}
 use borrow.Author.Tests.{eq-eqb, ne-eqb}
 use Rattle.text.proofs.input.is_separator.Statement.{statement}
 use Rattle.text.proofs.input.is_separator.Tie as tie

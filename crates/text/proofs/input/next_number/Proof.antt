@@ -1,7 +1,7 @@
 -- `text::input::next_number` passes over separators, takes the word that stands there, and goes by what it gives.
 use borrow.Author.Needs.{needs, sfits-of}
 use mathlib.Core.Bool.{true, false}
-use mathlib.Core.List.{List, [], _∷_}
+use mathlib.Core.List.{List, _∷_}
 use mathlib.Core.Path.{_≡_, sym, _∙_}
 use mir.Facts.{toZ-ofZ}
 use mir.Syntax.{w32}

@@ -4,7 +4,7 @@ use mathlib.Core.Bool.{Bool, true, false}
 use mathlib.Core.Path.{_≡_}
 use native.Mathlib.Omega.{arith}
 use Prim.Native.Nat.{ℕ, _+_, _<_}
-use lib.IntN.{pos, negℤ, _-ℤ_, +ℤ-idl}
+use lib.IntN.{pos, _-ℤ_, +ℤ-idl}
 use mir.Syntax.{w32}
 use mir.Val.{toZ}
 use Rattle.integers.specs.Size.{AtMost}
@@ -12,7 +12,7 @@ use Rattle.integers.proofs.Machine.{Exact, i32, value, stored, minus, fits}
 use Rattle.text.specs.declared.input.Digits.{Digits}
 use Rattle.text.specs.declared.input.Digits.the-variants.{Value}
 use Rattle.text.specs.declared.input.Parsed.the-variants.{Number}
-use Rattle.text.specs.Number.{IsShort, withSign, signed}
+use Rattle.text.specs.Number.{IsShort, signed}
 use Rattle.text.proofs.input.signed.Statement.{statement}
 use Rattle.text.proofs.input.signed.Tie as tie
 

@@ -3,8 +3,7 @@ use borrow.Author.Needs.{needs}
 use borrow.Fn.Kinds.{In}
 use borrow.Fn.PlainCycle.{Measures, is, falls, and}
 use Prim.Native.Nat.{ℕ, _+_, _/_, _%_, _^_, _≤_, _<_}
-use mathlib.Core.Path.{_≡_, sym, ap, _∙_}
-use mathlib.Core.List.{_∷_, []}
+use mathlib.Core.Path.{_≡_, _∙_}
 use native.Mathlib.Omega.{arith}
 use lib.Dec.{lit<}
 use Rattle.text.specs.declared.output.Text.{Text}
@@ -58,7 +57,7 @@ module _ (t : ℕ) where
 
   natural-returns-2 : lts.Need-returns-2 (push.Asked, push.Learnt, below t, natural.Post) (at t) natural.Post
   natural-returns-2 c =
-      let below : 2 ^ 64 < 10 ^ 20 = lit< tt in
+      let enough : 2 ^ 64 < 10 ^ 20 = lit< tt in
       c .push2 .ensures ∙ one-more _ _ _ (omega arith) (c .before .before .if1 .left) (c .before .natural .ensures)
 
 pub +natural-spec : {M : Type 1} → statement M

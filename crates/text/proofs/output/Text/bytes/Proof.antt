@@ -1,6 +1,6 @@
 -- `Text::bytes` pushes the bytes one after the other.
 use borrow.Author.Needs.{needs}
-use mathlib.Core.List.{List, _∷_}
+use mathlib.Core.List.{List}
 use mathlib.Core.Path.{_≡_, refl, sym, ap, _∙_}
 use native.Mathlib.Numerals.{add-one}
 use native.Mathlib.Omega.{arith}
