@@ -1,4 +1,5 @@
 -- Document 01: the lines that the fit program writes of a comparison.
+--     numberLine        a word and a number in one line
 --     refusalText       a refusal in one line: the side, the number and the place's numbers, if any
 --     doneText          five lines: the gap, the clearance figure, side and corner, the feature with nearest x and y, and N
 --     comparisonText    one of them; nothing where the comparison is spent, which does not come with the steps that the program allows
@@ -66,7 +67,11 @@ toText w =
 
 unfoldable pub doneText : DoneReport → List ℕ
 doneText d =
-    gapText (d .answer .gap) ++ numberLine (ascii "mm ") (d .clearance) ++ fromText (d .answer) ++ toText (d .answer) ++ numberLine (ascii "steps ") (d .steps)
+    gapText (d .answer .gap)
+    ++ numberLine (ascii "mm ") (d .clearance)
+    ++ fromText (d .answer)
+    ++ toText (d .answer)
+    ++ numberLine (ascii "steps ") (d .steps)
 
 abbrev pub comparisonText : Comparison → List ℕ
 comparisonText (Refused r) = refusalText r

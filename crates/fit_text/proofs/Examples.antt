@@ -1,4 +1,8 @@
 -- Worked examples: what the program writes for an input, by computing what the definitions give.
+--     Case, Holds, All    an input and what is written for it; the definitions say so; of each of some cases
+--     examples            document 01's example; then a refusal with two places, one, and none; a count above 256; what cannot be read
+use Prim.Native.String.{String}
+use mathlib.Core.List.{List, [], _∷_}
 use mathlib.Core.Path.{_≡_, refl}
 use Rattle.plane.specs.Range.{inRange}
 use Rattle.plane.specs.Vector.{_⇀_, cross, dot, same}
@@ -22,7 +26,35 @@ use Rattle.fit_text.specs.Input.{numbers, outline}
 use Rattle.fit_lines.specs.Lines.{refusalText, gapText, numberLine, fromText, coordinateText, toText, doneText}
 use Rattle.fit_text.specs.Response.{response}
 
--- document 01's example
-square-triangle : response (ascii "4 0 0 4 0 4 4 0 4 3 0 0 4 0 0 4") ≡ ascii "gap 256/32\nmm 2\nfrom A 2\nto edge 1 at 64/32 64/32\nsteps 7\n"
+record Case : Type 0 where
+  input : String
+  output : String
+
+abbrev Holds : Case → Type 0
+Holds c = response (ascii (c .input)) ≡ ascii (c .output)
+
+abbrev All : List Case → Type 0
+All [] = Unit {0}
+All (c ∷ cs) = Holds c × All cs
+
+abbrev example : String → String → Case
+example input output = record { input = input; output = output }
+
+abbrev cases : List Case
+cases =
+    example "4 0 0 4 0 4 4 0 4 3 0 0 4 0 0 4" "gap 256/32\nmm 2\nfrom A 2\nto edge 1 at 64/32 64/32\nsteps 7\n"
+    ∷ example " 3 0 0 0 4 4 0\n3 0 0 4 0 0 4 " "refused A 6 0 2\n"
+    ∷ example "3 0 0 4 0 0 4 3 0 0 4 0 0 16001" "refused B 4 2\n"
+    ∷ example "2 0 0 4 0 0" "refused A 2\n"
+    ∷ example "257 x" "refused A 3\n"
+    ∷ example "3 0 0 4 0 0 4 00300" "refused B 3\n"
+    ∷ example "257x" "unreadable\n"
+    ∷ example "-1 0" "unreadable\n"
+    ∷ example "0 0 0" "unreadable\n"
+    ∷ example "0\t0" "unreadable\n"
+    ∷ example "" "unreadable\n"
+    ∷ []
+
+pub examples : All cases
 unfolding inRange _⇀_ cross dot same each corners next outOfRange repeated notLeftOf notLeft check all firstOf feature isFirstHalf isBefore sameDirection _⇢_ rootBy precedes insert sort edgesBelow angularOrder own liesAt isCounted begin measured step steps report digits allDigits valueFrom natural number wordsFrom numbers outline refusalText gapText numberLine fromText coordinateText toText doneText
-square-triangle = refl
+examples = (refl, (refl, (refl, (refl, (refl, (refl, (refl, (refl, (refl, (refl, (refl, tt)))))))))))

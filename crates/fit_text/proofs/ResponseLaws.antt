@@ -24,7 +24,8 @@ use Rattle.fit_lines.specs.Lines.{comparisonText}
 use Rattle.fit_lines.proofs.LengthLaws.{refusal-fits, done-fits}
 use Rattle.fit_text.specs.declared.reading.Outcome.{Outcome}
 use Rattle.fit_text.specs.declared.reading.Outcome.the-variants.{Compared, Unreadable}
-use Rattle.fit_text.specs.Input.{Given, Numbers, TooMany, Unreadable as GivenUnreadable, outline, allowance, tooMany, withB, withA, outcome}
+use Rattle.fit_text.specs.Input.{Given, Numbers, TooMany, Unreadable as GivenUnreadable}
+use Rattle.fit_text.specs.Input.{outline, allowance, tooMany, withB, withA, outcome}
 use Rattle.fit_text.specs.Response.{outcomeText, mostBytes, judged, response, LaidDown, unreadable, refused, done}
 
 -- an accepted pair has at most 512 edges, so the law of comparing says that it is done
@@ -69,7 +70,8 @@ response-start s = by-length (ltb mostBytes (length s)) refl
     by-length : (t : Bool) → ltb mostBytes (length s) ≡ t → response (take (suc mostBytes) s) ≡ response s
     by-length true long =
         let more = ltb-true mostBytes (length s) long in
-        let cut : ltb mostBytes (length (take (suc mostBytes) s)) ≡ true = rw (length-take-le (suc mostBytes) s more) (lt-ltb mostBytes (suc mostBytes) (omega arith)) in
+        let cut : ltb mostBytes (length (take (suc mostBytes) s)) ≡ true =
+        rw (length-take-le (suc mostBytes) s more) (lt-ltb mostBytes (suc mostBytes) (omega arith)) in
         rw (cut, long)
     by-length false short = rw (take-all (suc mostBytes) s (omega (arith, ltb-false mostBytes (length s) short)))
 

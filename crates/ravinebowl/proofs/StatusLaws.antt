@@ -8,7 +8,8 @@ use mathlib.Core.List.{[], _∷_}
 use lib.Dec.{lit<}
 use lib.ListN.{getD}
 use Rattle.outline.specs.declared.Fault.{Fault}
-use Rattle.outline.specs.declared.Fault.the-variants.{OddLength, TooFewCorners, TooManyCorners, OutOfRange, Repeated, NotLeft, PointOutOfRange, NoSuchCorner, WrongLength}
+use Rattle.outline.specs.declared.Fault.the-variants.{OddLength, TooFewCorners, TooManyCorners, OutOfRange, Repeated, NotLeft}
+use Rattle.outline.specs.declared.Fault.the-variants.{PointOutOfRange, NoSuchCorner, WrongLength}
 use Rattle.outline.specs.declared.Place.{Place}
 use Rattle.outline.specs.declared.Place.the-variants.{Nowhere, At, EdgeAndCorner}
 use Rattle.outline.specs.declared.Refusal.{Refusal}

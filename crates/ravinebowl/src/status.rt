@@ -3,7 +3,8 @@ use outline::Place;
 use outline::Refusal;
 use outline::RefusedSide;
 ghost use mathlib.Core.Path.{_≡_};
-ghost use Rattle.ravinebowl.specs.Status.{sideNumber, placeCount, firstPlace, secondPlace, plain, answered, wrongResultLength, refusedStatus};
+ghost use Rattle.ravinebowl.specs.Status.{sideNumber, placeCount, firstPlace, secondPlace, refusedStatus};
+ghost use Rattle.ravinebowl.specs.Status.{plain, answered, wrongResultLength};
 
 // Whether a call answered and, if not, why: the code, the side of a refusal, how many place numbers it has, and these.
 #[repr(C)]

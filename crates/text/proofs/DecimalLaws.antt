@@ -5,12 +5,11 @@
 --     decimal-digits, first-no-minus    every byte is a digit, so none is a minus
 --     decimal-value                  the digits have the number's value
 --     decimal-length                 a number below 10 ^ k has at most k digits
---     decimal-first, decimal-leading    a number above 0 begins with a digit above 0: no zero leads but that of 0
---     IsDecimal                      digits, and no zero leads where there is more than one
+--     decimal-first                  a number above 0 begins with a digit above 0
+--     IsDecimal                      digits, and no zero leads where there is more than one digit
 --     decimal-is, decimal-unique     `decimal` is the text of this kind with the number's value
---     same-value                     two texts of this kind with the same value are equal
 --     signed-below, signed-above     a number below 0 is a minus and its size; another is its size
---     minus-first, no-minus-zero     a minus stands exactly before the numbers below 0, and before no zero
+--     minus-first                    a minus stands exactly before the numbers below 0, so not before 0
 use Prim.Native.Nat.{ℕ, zero, suc, _+_, _-_, _/_, _%_, _^_, _≤_, _<_}
 use mathlib.Core.Bool.{Bool, true, false, cond}
 use mathlib.Core.Logic.{_↔_, _≢_}
@@ -136,11 +135,6 @@ decimal-first = digits-induction (λ (k n : ℕ) (w : List ℕ). n < 10 ^ k → 
     (λ k n w large front below some. let first = front (tenth-below n k below) (omega arith) in rw (first-stays w (last n) (omega arith)) first)
     20
 
-pub decimal-leading : (n : ℕ) (w : List ℕ) → n < 10 ^ 20 → decimal n ≡ 48 ∷ w → (n ≡ 0) × (w ≡ [])
-decimal-leading zero w below leads = (refl, cc decimal-zero)
-decimal-leading (suc n) w below leads =
-    absurd (omega (arith, decimal-first (suc n) below (omega arith), ap (λ (v : List ℕ). getD v 0 0) leads))
-
 pub record IsDecimal (w : List ℕ) : Type 0 where
   pub some : 0 < length w
   pub all : allDigits w ≡ true
@@ -196,11 +190,6 @@ digits-unique (b ∷ c ∷ w) is k short =
 pub decimal-unique : (w : List ℕ) → IsDecimal w → length w ≤ 20 → decimal (value w) ≡ w
 decimal-unique w is short = digits-unique w is 20 short
 
-pub same-value : (v w : List ℕ) → IsDecimal v → IsDecimal w → value v ≡ value w → v ≡ w
-same-value v w is-v is-w same =
-    let k = length v + length w in
-    sym (digits-unique v is-v k (omega arith)) ∙ ap (digits k) same ∙ digits-unique w is-w k (omega arith)
-
 pub signed-below : (z : ℤ) → z <ℤ pos 0 → signedDecimal z ≡ ascii "-" ++ decimal (natAbs z)
 signed-below (pos n) below = absurd (omega (arith, ltb→lt n 0 (below .lt)))
 signed-below (negsuc n) below = refl
@@ -212,7 +201,3 @@ signed-above (negsuc n) above = absurd (above .le)
 pub minus-first : (z : ℤ) → (getD (signedDecimal z) 0 0 ≡ 45) ↔ (z <ℤ pos 0)
 minus-first (pos n) = (λ minus. absurd (first-no-minus n minus), λ below. absurd (omega (arith, ltb→lt n 0 (below .lt))))
 minus-first (negsuc n) = (λ minus. record { lt = tt }, λ below. refl)
-
-pub no-minus-zero : (z : ℤ) (w : List ℕ) → natAbs z < 10 ^ 20 → signedDecimal z ≢ ascii "-0" ++ w
-no-minus-zero (pos n) w below is = first-no-minus n (ap (λ (v : List ℕ). getD v 0 0) is)
-no-minus-zero (negsuc n) w below is = omega (arith, decimal-first (suc n) below (omega arith), ap (λ (v : List ℕ). getD v 1 0) is)

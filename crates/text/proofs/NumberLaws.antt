@@ -93,7 +93,8 @@ natural-short w = by-length (ltb 0 (length w)) (leb (length w) 5) (allDigits w) 
     by-length true false all shorter digits = tt
     by-length true true false shorter digits = tt
     by-length true true true shorter digits =
-        let most : 10 ^ (0 + length w) ≤ 10 ^ 5 = pow-le-pow-right (omega arith) {i = 0 + length w} {j = 5} (omega (arith, leb-true (length w) 5 shorter)) in
+        let least : 0 + length w ≤ 5 = omega (arith, leb-true (length w) 5 shorter) in
+        let most : 10 ^ (0 + length w) ≤ 10 ^ 5 = pow-le-pow-right (omega arith) least in
         omega (arith, value-below w 0 0 (omega arith) digits)
 
 pub number-unsigned : (w : List ℕ) → 0 < length w → getD w 0 0 ≢ 45 → number w ≡ signed false (natural w)

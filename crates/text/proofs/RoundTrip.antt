@@ -1,7 +1,7 @@
 -- What is printed is read back.
 --     natural-decimal    a number of at most five digits, by its digits
 --     number-signed      the same with a sign
-use Prim.Native.Nat.{ℕ, suc, _^_, _<_}
+use Prim.Native.Nat.{ℕ, suc, _^_, _≤_, _<_}
 use mathlib.Core.Path.{_≡_}
 use native.Mathlib.Omega.{arith}
 use lib.Dec.{lit≤}
@@ -15,7 +15,8 @@ use Rattle.text.proofs.DecimalLaws.{decimal-some, decimal-digits, decim
 
 pub natural-decimal : (n : ℕ) → n < 100000 → natural (decimal n) ≡ Value n
 natural-decimal n below =
-    rw (natural-is (decimal n) (decimal-some n) (decimal-length n 4 below), decimal-digits n, decimal-value n (omega (arith, lit≤ {m = 100000} {n = 10 ^ 20} tt)))
+    let less : 100000 ≤ 10 ^ 20 = lit≤ tt in
+    rw (natural-is (decimal n) (decimal-some n) (decimal-length n 4 below), decimal-digits n, decimal-value n (omega arith))
 
 pub number-signed : (z : ℤ) → natAbs z < 100000 → number (signedDecimal z) ≡ Number z
 unfolding number

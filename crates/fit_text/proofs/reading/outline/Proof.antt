@@ -37,7 +37,8 @@ cast-if2 c = search needs
 returns-3 : tie.Need-returns-3
 returns-3 c =
     let z-fits : SFits w32 (c .before .before .before .count .given .0 .0) = search sfits-of in
-    let first = sym (c .before .before .before .before .before .next-number .ensures) ∙ ap (asFirst _) (c .before .before .before .count .given .1) in
+    let d = c .before .before .before in
+    let first = sym (d .before .before .next-number .ensures) ∙ ap (asFirst _) (d .count .given .1) in
     (omega arith, outline-many _ _ first (rw (toZ-ofZ z-fits) at (c .if2 .taken)))
 
 cast-numbers : tie.Need-cast-numbers
@@ -64,7 +65,8 @@ same-length c = search needs
 returns-4 : tie.Need-returns-4
 returns-4 c =
     let z-fits : SFits w32 (c .before .before .before .before .before .before .count .given .0 .0) = search sfits-of in
-    let first = sym (c .before .before .before .before .before .before .before .before .next-number .ensures) ∙ ap (asFirst _) (c .before .before .before .before .before .before .count .given .1) in
+    let d = c .before .before .before .before .before .before in
+    let first = sym (d .before .before .next-number .ensures) ∙ ap (asFirst _) (d .count .given .1) in
     let (room, given) = c .before .numbers .ensures in
     let not-below = rw (toZ-ofZ z-fits) at (c .before .before .before .before .if1 .left) in
     let not-above = rw (toZ-ofZ z-fits) at (c .before .before .before .if2 .left) in

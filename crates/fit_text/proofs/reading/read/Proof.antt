@@ -61,12 +61,15 @@ returns c =
 
 returns-2 : tie.Need-returns-2
 returns-2 c =
-    let given = given-case _ _ _ (c .before .before .before .before .before .before .before .outline .ensures .1) (c .before .before .before .before .enum-told2 .given .1) in
-    rw given (ap Compared (c .compare .ensures .0 ∙ ap (λ (s : List ℤ). comparison s [] allowance) (c .before .before .before .too-many .ensures)))
+    let d = c .before .before .before .before in
+    let given = given-case _ _ _ (d .before .before .before .outline .ensures .1) (d .enum-told2 .given .1) in
+    let many = ap (λ (s : List ℤ). comparison s [] allowance) (c .before .before .before .too-many .ensures) in
+    rw given (ap Compared (c .compare .ensures .0 ∙ many))
 
 returns-3 : tie.Need-returns-3
 returns-3 c =
-    let given = given-case _ _ _ (c .before .before .before .before .before .before .outline .ensures .1) (c .before .before .before .n .given .1) in
+    let d = c .before .before .before in
+    let given = given-case _ _ _ (d .before .before .before .outline .ensures .1) (d .n .given .1) in
     rw given (c .with-b .ensures)
 
 pub read-spec : {M : Type 1} → statement M

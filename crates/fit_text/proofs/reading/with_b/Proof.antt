@@ -45,7 +45,8 @@ is-at-end-requires c κs = search needs
 
 returns : tie.Need-returns
 returns c =
-    let given = given-case _ _ _ (c .before .before .before .before .before .before .outline .ensures .1) (c .before .before .before .n .given .1) in
+    let d = c .before .before .before in
+    let given = given-case _ _ _ (d .before .before .before .outline .ensures .1) (d .n .given .1) in
     with-b-more _ _ given (sym (c .before .is-at-end .ensures) ∙ not-true _ (c .if1 .taken))
 
 array-share-prefix-b : tie.Need-array-share-prefix-b
@@ -68,12 +69,15 @@ returns-2 c =
 returns-3 : tie.Need-returns-3
 returns-3 c =
     let a = c .before .before .before .before .before .before .before .before .before .before .args .a .now in
-    let given = given-case _ _ _ (c .before .before .before .before .before .before .outline .ensures .1) (c .before .before .before .enum-told2 .given .1) in
-    rw given (ap Compared (c .compare .ensures .0 ∙ ap (λ (t : List ℤ). comparison a t allowance) (c .before .before .too-many .ensures)))
+    let d = c .before .before .before in
+    let given = given-case _ _ _ (d .before .before .before .outline .ensures .1) (d .enum-told2 .given .1) in
+    let many = ap (λ (t : List ℤ). comparison a t allowance) (c .before .before .too-many .ensures) in
+    rw given (ap Compared (c .compare .ensures .0 ∙ many))
 
 returns-4 : tie.Need-returns-4
 returns-4 c =
-    let given = given-case _ _ _ (c .before .before .before .before .before .before .before .before .outline .ensures .1) (c .before .before .before .before .before .n .given .1) in
+    let d = c .before .before .before .before .before in
+    let given = given-case _ _ _ (d .before .before .before .outline .ensures .1) (d .n .given .1) in
     let end = sym (c .before .before .before .is-at-end .ensures) ∙ not-false _ (c .before .before .if1 .left) in
     ap Compared (c .compare2 .ensures .0) ∙ with-b-end _ _ given end
 
