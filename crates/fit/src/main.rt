@@ -7,7 +7,7 @@ ghost use lib.ListN.{length};
 ghost use Rattle.fit_text.specs.Response.{mostBytes};
 
 // Room for one byte above the limit: of a longer input no more need be read (`response-start` in `fit_text/proofs/ResponseLaws.antt`).
-const ROOM: usize = 16385;
+const ROOM: usize = fit_text::MOST_BYTES + 1;
 
 // The contract has the length alone, not the list of all the zeros.
 fn room() -> [u8; ROOM]

@@ -3,6 +3,7 @@
 --     Read                          the first i of n numbers are read to a list: what is given is decided by the words that are left
 --     none-read, one-read, all-read, not-read    how reading begins, goes on and ends
 --     outline-stop, outline-negative, outline-many, outline-counted    an outline, by what the first word gives
+--     count-bound                   a count that is neither negative nor above 256
 --     too-many-refused              the list that stands for an outline of too many corners gets 3
 --     given-case, has-room          what the code finds, by its case
 --     with-b-end, with-b-more       what is given for B, by whether words are left
@@ -118,7 +119,6 @@ module _ (ws : List (List ℕ)) where
   outline-counted (pos n) first not-below not-above = rw (first, not-above)
   outline-counted (negsuc n) first not-below not-above = absurd (false≢true (sym not-below))
 
--- a count that is taken
 pub count-bound : (z : ℤ) → ltZ z (pos 0) ≡ false → ltZ (pos most) z ≡ false → T (nonNeg z) × (natAbs z ≤ most)
 count-bound (pos n) not-below not-above = (tt, ltb-false most n not-above)
 count-bound (negsuc n) not-below not-above = absurd (false≢true (sym not-below))

@@ -63,7 +63,7 @@ response-laid-down s = by-length (ltb mostBytes (length s))
     by-length true = unreadable refl
     by-length false = a-laid-down (outline (words s))
 
--- so the program need not read more than one byte above the limit
+-- the program need not read more than one byte above the limit
 pub response-start : (s : List ℕ) → response (take (suc mostBytes) s) ≡ response s
 response-start s = by-length (ltb mostBytes (length s)) refl
   where

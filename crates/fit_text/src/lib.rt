@@ -11,7 +11,7 @@ ghost use Rattle.text.specs.Output.{held, room};
 ghost use Rattle.fit_text.specs.Response.{response};
 
 // The longest input that is not unreadable: 16 KiB.
-const MOST_BYTES: usize = 16384;
+pub const MOST_BYTES: usize = 16384;
 
 fn unreadable() -> Text
     ensures { λ r. ⌜ r ≡ held (ascii "unreadable\n") ⌝ }
