@@ -12,9 +12,9 @@
  * pointer. A list that is written (`result`, `out`) must not overlap another list of the same call. Lists that are only read may overlap or
  * be the same. Nothing else is asked: any numbers, counts and lengths are answered or refused.
  *
- * What the functions do. They keep no state and no pointer, allocate nothing, and always return; threads may call them at the same time, as
- * long as no list is written that another call reads or writes. They use some 16 KiB of stack at the most. A call that does not answer writes to no
- * list: read `result` and `out` only where the code of the status is RAVINEBOWL_ANSWERED.
+ * What the functions do. They keep no state and no pointer, allocate nothing, use some 16 KiB of stack at the most, and always return.
+ * Threads may call them at the same time, as long as no list is written that another call reads or writes. A call that does not answer
+ * writes to no list: read `result` and `out` only where the code of the status is RAVINEBOWL_ANSWERED.
  */
 #ifndef RAVINEBOWL_H
 #define RAVINEBOWL_H
