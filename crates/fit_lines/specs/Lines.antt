@@ -2,9 +2,10 @@
 --     numberLine        a word and a number in one line
 --     refusalText       a refusal in one line: the side, the number and the place's numbers, if any
 --     doneText          five lines: the gap, the clearance figure, side and corner, the feature with nearest x and y, and N
---     comparisonText    one of them; nothing where the comparison is spent, which does not come with the steps that the program allows
--- Every line ends with a line end. Fractions are as they are given, not reduced. Every number here is one of 64 bits, so that `decimal` has all
--- its digits (`done-fits` in `hausdorff/proofs/Fitting.antt`).
+--     comparisonText    the text of a comparison: one of the two; nothing where the comparison is spent, which does not come with the steps that the program allows
+-- Every line ends with a line end. Fractions are as they are given, not reduced. `decimal` has all digits of every number here: the gap's, the
+-- point's lower number, the corner's, the feature's and the clearance fit 63 bits (`done-fits` in `hausdorff/proofs/Fitting.antt`), and X, Y, the
+-- steps and a refusal's numbers are machine numbers in the code, whose result equals the definition's.
 use Prim.Native.Nat.{ℕ}
 use mathlib.Core.List.{List, [], _++_}
 use lib.IntN.{ℤ}

@@ -2,7 +2,7 @@
 --     Given            what a text gives for one outline: its numbers and the words after them, or a count above 256, or it cannot be read
 --     put, before      a number before what is given; the first number and what the words after it give
 --     numbers          so many numbers, one a word
---     counted, outline    a corner count and the numbers of an outline. A count above 256 ends the reading
+--     counted, outline a corner count and the numbers of an outline. A count above 256 ends the reading
 --     allowance        how many steps are allowed
 --     tooMany          a list of 257 corners: it stands for an outline whose count is above 256, which counts as 3 for its side
 --                      (`too-many-refused` in `proofs/InputLaws.antt`)

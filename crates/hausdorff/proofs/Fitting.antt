@@ -1,4 +1,5 @@
--- Every number of an answer fits an i64: none is above 2,048,000,000 squared, which is below 2^63.
+-- The natural numbers of an answer fit an i64: none is above 2,048,000,000 squared, which is below 2^63. (X and Y of its point are i64 in the
+-- code, and the steps u32.)
 --     values-fit       of what document 01 lays down for a feature of an accepted outline and a point in range
 --     answers-fit      so of the nearest point
 --     corner-fits      and of a corner with its gap to the other outline

@@ -1,4 +1,4 @@
--- The numbers of an answer fit 63 bits, so that they can be cast to i64: `proofs/Fitting.antt` shows that all do.
+-- The natural numbers of an answer fit 63 bits, so that they can be cast to i64: `proofs/Fitting.antt` shows that all do.
 --     FitsI64                  a number does
 --     FeatureFits              a feature's number
 --     NearestFits              the numbers of a nearest point

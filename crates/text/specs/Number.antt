@@ -5,6 +5,7 @@
 --     natural               the value of one to five digits
 --     withSign, signed      a number with its sign; what digits give with a sign before them
 --     number                the number that a word gives, if it gives one
+--     IsShort               for the code: digits give a value of fewer than six digits
 -- `proofs/RoundTrip.antt` shows that it gives back every number of at most five digits from its decimal text.
 use Prim.Native.Nat.{ℕ, _+_, _-_, _*_, _<_}
 use mathlib.Core.Bool.{Bool, true, false, cond, _&&_}
