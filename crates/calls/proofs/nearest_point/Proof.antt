@@ -28,17 +28,18 @@ returns-2 : tie.Need-returns-2
 returns-2 c =
     ap Refused (c .refusal .ensures)
     ∙ call-out-of-range _ _ (c .before .before .before .before .before .read-outline .ensures)
-    (c .before .before .before .enum-told .given .1) (cc)
+    (c .before .before .before .enum-told .given .1) (rw (c .before .before .in-range .ensures) at (c .before .if1 .taken))
 
 nearest-requires : tie.Need-nearest-requires
 nearest-requires c κs =
-    call-asks _ _ (c .before .before .before .before .read-outline .ensures) (c .before .before .enum-told .given .1) (cc)
+    call-asks _ _ (c .before .before .before .before .read-outline .ensures) (c .before .before .enum-told .given .1)
+    (rw (c .before .in-range .ensures) at (c .if1 .left))
 
 returns-3 : tie.Need-returns-3
 returns-3 c =
     ap Found (c .nearest .ensures)
     ∙ call-found _ _ (c .before .before .before .before .before .read-outline .ensures)
-    (c .before .before .before .enum-told .given .1) (cc)
+    (c .before .before .before .enum-told .given .1) (rw (c .before .before .in-range .ensures) at (c .before .if1 .left))
 
 pub nearest-point-spec : {M : Type 1} → statement M
 nearest-point-spec =

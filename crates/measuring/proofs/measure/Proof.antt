@@ -12,7 +12,7 @@ changes-requires c κs = search needs
 returns : tie.Need-returns
 returns c =
     let given = c .before .before .args in
-    sym (keeps-old (given .side) (given .number) (given .v) (given .w) (given .f) (given .old) (not-true _ (cc)))
+    sym (keeps-old (given .side) (given .number) (given .v) (given .w) (given .f) (given .old) (not-true _ (rw (c .before .changes .ensures) at (c .if1 .taken))))
 
 values-requires : tie.Need-values-requires
 values-requires c κs = search needs
@@ -22,8 +22,8 @@ named-requires c κs = search needs
 
 returns-2 : tie.Need-returns-2
 returns-2 c =
-    let given = c .before .before .before .before .args in
-    let taken = takes-new (given .side) (given .number) (given .v) (given .w) (given .f) (given .old) (not-false _ (cc)) in
+    let changed = c .before .before in let given = changed .before .before .args in
+    let taken = takes-new (given .side) (given .number) (given .v) (given .w) (given .f) (given .old) (not-false _ (rw (changed .before .changes .ensures) at (changed .if1 .left))) in
     rw (taken, c .named .ensures, c .before .values .ensures)
 
 pub measure-spec : {M : Type 1} → statement M

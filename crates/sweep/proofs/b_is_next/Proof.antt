@@ -30,7 +30,14 @@ side-requires c κs =
 returns-3 : tie.Need-returns-3
 returns-3 c =
     let fits : SFits w64 (c .side .result) = search sfits-of in
-    rw (ne-eqb _ 0 (c .before .before .before .before .if1 .left), ne-eqb _ 0 (c .before .before .before .if2 .left), toZ-ofZ fits) (cc)
+    rw (
+      ne-eqb _ 0 (c .before .before .before .before .if1 .left),
+      ne-eqb _ 0 (c .before .before .before .if2 .left),
+      toZ-ofZ fits,
+      c .side .ensures,
+      c .before .difference2 .ensures,
+      c .before .before .difference .ensures,
+    )
 
 pub b-is-next-spec : {M : Type 1} → statement M
 b-is-next-spec =

@@ -48,7 +48,11 @@ dot-requires : tie.Need-dot-requires
 dot-requires c κs = search span-difference
 
 returns : tie.Need-returns
-returns c = let after-fits : SFits w64 (c .before .dot .result) = search sfits-of in toward-after _ _ _ _ (cc (toZ-ofZ after-fits))
+returns c =
+    let dotted = c .before in let after-fits : SFits w64 (dotted .dot .result) = search sfits-of in
+    toward-after _ _ _ _
+    (rw (toZ-ofZ after-fits, dotted .dot .ensures, dotted .before .difference2 .ensures, dotted .before .before .difference .ensures)
+    at (c .if1 .taken))
 
 difference-requires-3 : tie.Need-difference-requires-3
 difference-requires-3 c κs = search needs
@@ -57,16 +61,26 @@ dot-requires-2 : tie.Need-dot-requires-2
 dot-requires-2 c κs = search span-difference
 
 returns-2 : tie.Need-returns-2
-returns-2 c = let before-fits : SFits w64 (c .before .dot2 .result) = search sfits-of in toward-before _ _ _ _ (cc (toZ-ofZ before-fits))
+returns-2 c =
+    let dotted = c .before in let before-fits : SFits w64 (dotted .dot2 .result) = search sfits-of in
+    let to = dotted .before .before .before .before .before in
+    toward-before _ _ _ _
+    (rw (toZ-ofZ before-fits, dotted .dot2 .ensures, dotted .before .difference3 .ensures, to .difference .ensures) at (c .if2 .taken))
 
 same-requires : tie.Need-same-requires
 same-requires c κs = search needs
 
 returns-3 : tie.Need-returns-3
 returns-3 c =
-    let after-fits : SFits w64 (c .before .before .before .before .before .dot .result) = search sfits-of in
-    let before-fits : SFits w64 (c .before .before .dot2 .result) = search sfits-of in
-    neither _ _ _ _ (cc (toZ-ofZ after-fits)) (cc (toZ-ofZ before-fits)) (c .same .ensures)
+    let second = c .before in let first = second .before .before .before in let to = first .before .before .before in
+    let after-fits : SFits w64 (first .before .dot .result) = search sfits-of in
+    let before-fits : SFits w64 (second .before .dot2 .result) = search sfits-of in
+    neither _ _ _ _
+    (rw (toZ-ofZ after-fits, first .before .dot .ensures, first .before .before .difference2 .ensures, to .difference .ensures)
+    at (first .if1 .left))
+    (rw (toZ-ofZ before-fits, second .before .dot2 .ensures, second .before .before .difference3 .ensures, to .difference .ensures)
+    at (second .if2 .left))
+    (c .same .ensures)
 
 pub corner-is-nearest-spec : {M : Type 1} → statement M
 corner-is-nearest-spec =

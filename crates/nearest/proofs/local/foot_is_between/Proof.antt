@@ -22,8 +22,8 @@ module _ (v p q : Corner) where
   before-start : leZ t (pos 0) ≡ true → false ≡ footIsBetween v p q
   before-start before = let fails = ≤ℤ-ltZ (leZ-true {a = t} {b = pos 0} before) in rw fails
 
-  after-start : {a l : ℤ} → leZ t (pos 0) ≡ false → a ≡ t → l ≡ squaredLength p q → ltZ a l ≡ footIsBetween v p q
-  after-start not-before is-t is-l = let after = <ℤ-ltZ (leZ-false {a = t} {b = pos 0} not-before) in rw (after, is-t, is-l)
+  after-start : {a l : ℤ} → a ≡ t → leZ a (pos 0) ≡ false → l ≡ squaredLength p q → ltZ a l ≡ footIsBetween v p q
+  after-start is-t not-before is-l = let after = <ℤ-ltZ (leZ-false {a = t} {b = pos 0} (rw is-t at not-before)) in rw (after, is-t, is-l)
 
 difference-requires : tie.Need-difference-requires
 difference-requires c κs = search needs
@@ -35,16 +35,23 @@ dot-requires : tie.Need-dot-requires
 dot-requires c κs = search span-difference
 
 returns : tie.Need-returns
-returns c = let along-fits : SFits w64 (c .before .dot .result) = search sfits-of in before-start _ _ _ (cc (toZ-ofZ along-fits))
+returns c =
+    let dotted = c .before in let along-fits : SFits w64 (dotted .dot .result) = search sfits-of in
+    before-start _ _ _
+    (rw (toZ-ofZ along-fits, dotted .dot .ensures, dotted .before .difference2 .ensures, dotted .before .before .difference .ensures)
+    at (c .if1 .taken))
 
 squared-length-requires : tie.Need-squared-length-requires
 squared-length-requires c κs = search span-difference
 
 returns-2 : tie.Need-returns-2
 returns-2 c =
-    let along-fits : SFits w64 (c .before .before .dot .result) = search sfits-of in
+    let dotted = c .before .before in let along-fits : SFits w64 (dotted .dot .result) = search sfits-of in
     let length-fits : SFits w64 (c .squared-length .result) = search sfits-of in
-    after-start _ _ _ (cc (toZ-ofZ along-fits)) (toZ-ofZ along-fits ∙ (cc)) (toZ-ofZ length-fits ∙ (cc))
+    let run = dotted .before .before .difference .ensures in
+    after-start _ _ _
+    (toZ-ofZ along-fits ∙ rw (← run, ← dotted .before .difference2 .ensures) (dotted .dot .ensures)) (c .before .if1 .left)
+    (toZ-ofZ length-fits ∙ rw (← run) (c .squared-length .ensures))
 
 pub foot-is-between-spec : {M : Type 1} → statement M
 foot-is-between-spec =

@@ -35,28 +35,45 @@ is-right-requires : tie.Need-is-right-requires
 is-right-requires c κs = search needs
 
 returns : tie.Need-returns
-returns c = not-right _ _ _ _ _ (cc)
+returns c = not-right _ _ _ _ _ (rw (c .before .is-right .ensures) at (c .if1 .taken))
 
 foot-is-between-requires : tie.Need-foot-is-between-requires
 foot-is-between-requires c κs = search needs
 
 returns-2 : tie.Need-returns-2
-returns-2 c = between _ _ _ _ _ (cc) (cc)
+returns-2 c =
+    let right = c .before .before in
+    between _ _ _ _ _ (rw (right .before .is-right .ensures) at (right .if1 .left))
+    (rw (c .before .foot-is-between .ensures) at (c .if2 .taken))
 
 corner-is-nearest-requires : tie.Need-corner-is-nearest-requires
 corner-is-nearest-requires c κs = search needs
 
 returns-3 : tie.Need-returns-3
-returns-3 c = start _ _ _ _ _ (cc) (cc) (cc)
+returns-3 c =
+    let foot = c .before .before in let right = foot .before .before in
+    start _ _ _ _ _ (rw (right .before .is-right .ensures) at (right .if1 .left))
+    (rw (foot .before .foot-is-between .ensures) at (foot .if2 .left))
+    (rw (c .before .corner-is-nearest .ensures) at (c .if3 .taken))
 
 corner-is-nearest-requires-2 : tie.Need-corner-is-nearest-requires-2
 corner-is-nearest-requires-2 c κs = search needs
 
 returns-4 : tie.Need-returns-4
-returns-4 c = end _ _ _ _ _ (cc) (cc) (cc) (cc)
+returns-4 c =
+    let start = c .before .before in let foot = start .before .before in let right = foot .before .before in
+    end _ _ _ _ _ (rw (right .before .is-right .ensures) at (right .if1 .left))
+    (rw (foot .before .foot-is-between .ensures) at (foot .if2 .left))
+    (rw (start .before .corner-is-nearest .ensures) at (start .if3 .left))
+    (rw (c .before .corner-is-nearest2 .ensures) at (c .if4 .taken))
 
 returns-5 : tie.Need-returns-5
-returns-5 c = none _ _ _ _ _ (cc) (cc) (cc) (cc)
+returns-5 c =
+    let start = c .before .before in let foot = start .before .before in let right = foot .before .before in
+    none _ _ _ _ _ (rw (right .before .is-right .ensures) at (right .if1 .left))
+    (rw (foot .before .foot-is-between .ensures) at (foot .if2 .left))
+    (rw (start .before .corner-is-nearest .ensures) at (start .if3 .left))
+    (rw (c .before .corner-is-nearest2 .ensures) at (c .if4 .left))
 
 pub nearest-part-spec : {M : Type 1} → statement M
 nearest-part-spec =

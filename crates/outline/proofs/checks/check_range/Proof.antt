@@ -32,7 +32,9 @@ in-range-requires c κs = search needs
 
 returns : tie.Need-returns Inv-loop μ-loop
 unfolding outOfRange
-returns c = test-found (c .before .before .before .before .loop .inv) (omega arith) (cc)
+returns c =
+    test-found (c .before .before .before .before .loop .inv) (omega arith)
+    (rw (c .before .in-range .ensures, c .before .before .corner .ensures) at (c .if1 .taken))
 
 add-i : tie.Need-add-i Inv-loop μ-loop
 add-i c = omega arith
@@ -41,7 +43,9 @@ loop-less : tie.Need-loop-less Inv-loop μ-loop
 loop-less c = omega arith
 
 loop-again : tie.Need-loop-again Inv-loop μ-loop
-loop-again c = test-on (c .before .before .before .before .loop .inv) (omega arith) (cc)
+loop-again c =
+    test-on (c .before .before .before .before .loop .inv) (omega arith)
+    (rw (c .before .in-range .ensures, c .before .before .corner .ensures) at (c .if1 .left))
 
 returns-2 : tie.Need-returns-2 Inv-loop μ-loop
 unfolding outOfRange

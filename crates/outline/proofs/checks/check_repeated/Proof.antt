@@ -39,7 +39,16 @@ same-requires c κs = search needs
 
 returns : tie.Need-returns Inv-loop μ-loop
 unfolding repeated
-returns c = test-found (c .before .before .before .before .before .before .loop .inv) (omega arith) (cc)
+returns c =
+    test-found (c .before .before .before .before .before .before .loop .inv) (omega arith)
+    (rw (
+      c .before .same .ensures,
+      c .before .before .before .before .corner .ensures,
+      c .before .before .corner2 .ensures,
+      c .before .before .before .next .ensures,
+      c .before .before .before .before .before .before .before .count .ensures,
+    )
+    at (c .if1 .taken))
 
 add-i : tie.Need-add-i Inv-loop μ-loop
 add-i c = omega arith
@@ -48,7 +57,16 @@ loop-less : tie.Need-loop-less Inv-loop μ-loop
 loop-less c = omega arith
 
 loop-again : tie.Need-loop-again Inv-loop μ-loop
-loop-again c = test-on (c .before .before .before .before .before .before .loop .inv) (omega arith) (cc)
+loop-again c =
+    test-on (c .before .before .before .before .before .before .loop .inv) (omega arith)
+    (rw (
+      c .before .same .ensures,
+      c .before .before .before .before .corner .ensures,
+      c .before .before .corner2 .ensures,
+      c .before .before .before .next .ensures,
+      c .before .before .before .before .before .before .before .count .ensures,
+    )
+    at (c .if1 .left))
 
 returns-2 : tie.Need-returns-2 Inv-loop μ-loop
 unfolding repeated

@@ -31,7 +31,7 @@ returns : tie.Need-returns Inv-loop μ-loop
 unfolding notLeft
 returns c =
     scan-found (c .before .before .before .before .before .loop .inv) (omega arith)
-    (cc)
+    (rw (c .before .before .before .check-edge .ensures) at (c .before .f .given .1))
 
 enum-told : tie.Need-enum-told Inv-loop μ-loop
 enum-told c = search needs
@@ -45,7 +45,7 @@ loop-less c = omega arith
 loop-again : tie.Need-loop-again Inv-loop μ-loop
 loop-again c =
     scan-on (c .before .before .before .before .loop .inv) (omega arith)
-    (cc)
+    (rw (c .before .before .check-edge .ensures) at (c .enum-told .given .1))
 
 returns-2 : tie.Need-returns-2 Inv-loop μ-loop
 unfolding notLeft

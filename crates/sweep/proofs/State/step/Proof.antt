@@ -21,7 +21,7 @@ returns : tie.Need-returns
 returns c can =
     let found = c .before .before .before in let near-a = found .before .find in let near-b = found .find2 in
     rw (c .passed .ensures) (unchanged-after can (near-a .result) (near-b .result) (near-a .ensures) (near-b .ensures)
-    (cc (not-true (c .before .before .changes .result) (c .before .if1 .taken))))
+    (not-true _ (rw (c .before .before .changes .ensures) at (c .before .if1 .taken))))
 
 measured-requires : tie.Need-measured-requires
 measured-requires c κs = changes-requires (c .before .before) κs
