@@ -7,8 +7,8 @@ use outline::Fault;
 use outline::Reading;
 use outline::RefusedSide;
 use outline::Verdict;
-use outline::refusals;
 use plane::Corner;
+use reading::refusals;
 ghost use mathlib.Core.Path.{_≡_};
 ghost use Rattle.outline.specs.declared.RefusedSide.the-variants.{NoSide};
 ghost use Rattle.outline.specs.Reading.{reading};
@@ -21,7 +21,7 @@ ghost use Rattle.hausdorff.specs.Call.{comparison, IsComparison};
 pub fn read_outline(s: &[i32]) -> Reading
     ensures { λ r. ⌜ r ≡ reading NoSide (now (s .entry)) ⌝ }
 {
-    outline::read(s, RefusedSide::NoSide)
+    reading::read(s, RefusedSide::NoSide)
 }
 
 // Removes corner k from the outline that the list `s` gives, and writes the other corners to `out`, in their order.
@@ -51,7 +51,7 @@ pub fn nearest_point(v: Corner, s: &[i32]) -> NearestAnswer
         let fault = Fault::PointOutOfRange;
         return NearestAnswer::Refused(refusals::refusal(RefusedSide::NoSide, fault));
     }
-    NearestAnswer::Found(nearest::nearest(reading.outline, v))
+    NearestAnswer::Found(projection::nearest(reading.outline, v))
 }
 
 // Compares the outlines that the lists `a` and `b` give, in at most `allowance` steps.
@@ -61,12 +61,12 @@ pub fn compare(a: &[i32], b: &[i32], allowance: u32) -> Comparison
     ensures answer { λ r. ⌜ r ≡ comparison (now (a .entry)) (now (b .entry)) allowance ⌝ }
     ensures law { λ r. ⌜ IsComparison (now (a .entry)) (now (b .entry)) allowance r ⌝ }
 {
-    let reading_a = outline::read(a, RefusedSide::A);
+    let reading_a = reading::read(a, RefusedSide::A);
     let verdict_a = reading_a.verdict;
     if let Verdict::Refused(refusal) = verdict_a {
         return Comparison::Refused(refusal);
     }
-    let reading_b = outline::read(b, RefusedSide::B);
+    let reading_b = reading::read(b, RefusedSide::B);
     let verdict_b = reading_b.verdict;
     if let Verdict::Refused(refusal) = verdict_b {
         return Comparison::Refused(refusal);

@@ -2,9 +2,9 @@
 use outline::Check;
 use outline::FEWEST;
 use outline::Fault;
-use outline::checks;
-use outline::corners;
 use plane::Corner;
+use reading::checks;
+use reading::corners;
 ghost use mathlib.Core.Path.{_≡_};
 ghost use Prim.Native.Nat.{_+_, _*_, _^_, _<_};
 ghost use lib.ListN.{length};

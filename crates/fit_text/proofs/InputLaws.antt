@@ -26,9 +26,9 @@ use Rattle.outline.specs.declared.Fault.the-variants.{TooManyCorners}
 use Rattle.outline.specs.Corners.{corners, most}
 use Rattle.outline.specs.Reading.{check}
 use Rattle.hausdorff.specs.Call.{comparison}
-use Rattle.fit_text.specs.declared.reading.Found.{Found}
-use Rattle.fit_text.specs.declared.reading.Found.the-variants.{Numbers as FoundNumbers}
-use Rattle.fit_text.specs.declared.reading.Outcome.the-variants.{Compared, Unreadable as OutcomeUnreadable}
+use Rattle.fit_text.specs.declared.parsing.Found.{Found}
+use Rattle.fit_text.specs.declared.parsing.Found.the-variants.{Numbers as FoundNumbers}
+use Rattle.fit_text.specs.declared.parsing.Outcome.the-variants.{Compared, Unreadable as OutcomeUnreadable}
 use Rattle.fit_text.specs.Input.{Given, Numbers, TooMany, Unreadable, put, numbers, outline}
 use Rattle.fit_text.specs.Input.{allowance, tooMany, withB, asGiven, countOf}
 

@@ -22,11 +22,11 @@ use Rattle.text.specs.First.{FirstNumber, Number, None, firstNumber}
 use Rattle.text.specs.Words.{words}
 use Rattle.outline.specs.Corners.{most}
 use Rattle.hausdorff.specs.Call.{comparison}
-use Rattle.fit_text.specs.declared.reading.Outcome.{Outcome}
-use Rattle.fit_text.specs.declared.reading.Outcome.the-variants.{Compared, Unreadable as OutcomeUnreadable}
-use Rattle.fit_text.specs.declared.reading.Found.{Found}
-use Rattle.fit_text.specs.declared.reading.Found.the-variants.{Numbers as FoundNumbers}
-use Rattle.fit_text.specs.declared.reading.Found.the-variants.{TooMany as FoundTooMany, Unreadable as FoundUnreadable}
+use Rattle.fit_text.specs.declared.parsing.Outcome.{Outcome}
+use Rattle.fit_text.specs.declared.parsing.Outcome.the-variants.{Compared, Unreadable as OutcomeUnreadable}
+use Rattle.fit_text.specs.declared.parsing.Found.{Found}
+use Rattle.fit_text.specs.declared.parsing.Found.the-variants.{Numbers as FoundNumbers}
+use Rattle.fit_text.specs.declared.parsing.Found.the-variants.{TooMany as FoundTooMany, Unreadable as FoundUnreadable}
 
 pub data Given : Type 0 where
   Numbers : List ℤ → List (List ℕ) → Given

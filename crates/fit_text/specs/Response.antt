@@ -13,8 +13,8 @@ use Rattle.text.specs.Ascii.{ascii}
 use Rattle.outline.specs.declared.Refusal.{Refusal}
 use Rattle.hausdorff.specs.declared.Done.{Done as DoneReport}
 use Rattle.fit_lines.specs.Lines.{refusalText, doneText, comparisonText}
-use Rattle.fit_text.specs.declared.reading.Outcome.{Outcome}
-use Rattle.fit_text.specs.declared.reading.Outcome.the-variants.{Compared, Unreadable}
+use Rattle.fit_text.specs.declared.parsing.Outcome.{Outcome}
+use Rattle.fit_text.specs.declared.parsing.Outcome.the-variants.{Compared, Unreadable}
 use Rattle.fit_text.specs.Input.{outcome}
 
 abbrev pub outcomeText : Outcome → List ℕ

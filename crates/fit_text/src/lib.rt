@@ -1,7 +1,7 @@
 // The fit program on lists of bytes: from the bytes of its input to the bytes that it writes.
-mod reading;
+mod parsing;
 
-use reading::Outcome;
+use parsing::Outcome;
 use text::output::Text;
 ghost use mathlib.Core.Path.{_≡_};
 ghost use Prim.Native.Nat.{_≤_};
@@ -28,7 +28,7 @@ pub fn respond(input: &[u8]) -> Text
     if MOST_BYTES < input.len() {
         return unreadable();
     }
-    match reading::read(input) {
+    match parsing::read(input) {
         Outcome::Compared(comparison) => fit_lines::comparison(Text::empty(), comparison),
         Outcome::Unreadable => unreadable(),
     }

@@ -28,8 +28,8 @@ use Rattle.outline.proofs.Acceptance.{accepted-polygon}
 use Rattle.outline.proofs.CornersLaws.{next-below, previous-below, next-previous, previous-next}
 use Rattle.nearest.specs.declared.Feature.{Feature}
 use Rattle.nearest.specs.declared.Feature.the-variants.{Within, Corner as AtCorner, Edge as OnEdge}
-use Rattle.nearest.specs.declared.local.Part.{Part}
-use Rattle.nearest.specs.declared.local.Part.the-variants.{None, Start, Between, End}
+use Rattle.projection.specs.declared.local.Part.{Part}
+use Rattle.projection.specs.declared.local.Part.the-variants.{None, Start, Between, End}
 use Rattle.nearest.specs.Local.{along, squaredLength, isRight, footIsBetween, edgeIsNearest, isCorner, isEdge, Tested, feature}
 use Rattle.nearest.proofs.AnswerLaws.{feature-tested, feature-iff}
 use Rattle.nearest.proofs.LocalLaws.{length-above-0, corner-visible}

@@ -5,7 +5,7 @@ use Prim.Native.Nat.{_<_}
 use mathlib.Core.Path.{_≡_, refl, sym, ap, subst}
 use lib.ListN.{length}
 use Rattle.plane.specs.Range.{InRange}
-use Rattle.nearest.proofs.Pass.{before-below, after-below}
+use Rattle.outline.proofs.CornersLaws.{before-below, after-below}
 use Rattle.measuring.specs.declared.Window.{Window}
 use Rattle.measuring.specs.Window.{IsWindow}
 

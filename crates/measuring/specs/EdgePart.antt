@@ -10,8 +10,8 @@ use lib.Signed.{leZ, ltZ}
 use Rattle.plane.specs.declared.Corner.{Corner}
 use Rattle.plane.specs.declared.Vector.{Vector}
 use Rattle.plane.specs.Vector.{_⇀_, cross, dot}
-use Rattle.nearest.specs.declared.local.Part.{Part}
-use Rattle.nearest.specs.declared.local.Part.the-variants.{None, Start, Between, End}
+use Rattle.projection.specs.declared.local.Part.{Part}
+use Rattle.projection.specs.declared.local.Part.the-variants.{None, Start, Between, End}
 use Rattle.measuring.specs.declared.Near.{Near}
 use Rattle.measuring.specs.declared.Near.the-variants.{None as NotNear, Corner as TheCorner, EdgeAfter, EdgeBefore}
 use Rattle.measuring.specs.declared.Near.the-variants.{CornerAfter, CornerBefore}

@@ -1,4 +1,4 @@
--- The nearest point: laws, in the order of the argument, and then what the code stands on.
+-- The nearest point: laws, in the order of the argument.
 pub mod Support
 pub mod NearestLaws
 pub mod PieceLaws
@@ -10,6 +10,4 @@ pub mod FirstOf
 pub mod AnswerLaws
 pub mod SearchLaws
 pub mod Scaling
-pub mod Sizes
-pub mod Pass
 pub mod CallLaws

@@ -1,15 +1,13 @@
 -- The nearest feature of an outline to a point, found by tests that look at a corner or an edge and the corners next to it alone.
 --     squaredLength, along              of the edge from p to q; how far along it the foot of a point lies
 --     cornerIsNearest, edgeIsNearest    the tests, of the corners themselves
+--     isRight, footIsBetween            the two parts of the test of an edge
 --     isCorner, isEdge                  the tests at corner i and at edge i of an outline
 --     Tested                            the test of a feature holds; of Within: no test holds
 --     featureAt, firstOf                what they find at corner i; what is found first at 0, 1, .. below n (Within: nothing)
 --     feature                           the feature that they find; Within where they find none
 --     nearest                           that feature with its gap and its point
 -- `proofs/AnswerLaws.antt` shows that `nearest` is the one answer that document 01's definition (`Nearest.antt`) admits.
--- For the code, which tries at an edge only if v is strictly right of it:
---     isRight, footIsBetween            the two parts of the test of an edge
---     nearestPart                       the part of an edge that is nearest to v, if any
 use Prim.Native.Nat.{ℕ, zero, suc, _<_}
 use mathlib.Core.Path.{_≡_}
 use mathlib.Core.Bool.{Bool, true, false, cond, not, _&&_}
@@ -23,8 +21,6 @@ use Rattle.outline.specs.Corners.{corner, next, previous}
 use Rattle.nearest.specs.declared.Feature.{Feature}
 use Rattle.nearest.specs.declared.Feature.the-variants.{Within, Corner as AtCorner, Edge as OnEdge}
 use Rattle.nearest.specs.declared.NearestPoint.{NearestPoint}
-use Rattle.nearest.specs.declared.local.Part.{Part}
-use Rattle.nearest.specs.declared.local.Part.the-variants.{None, Start, Between, End}
 use Rattle.nearest.specs.Feature.{values}
 
 -- the squared length of the edge from p to q
@@ -83,12 +79,3 @@ feature cs v = firstOf (featureAt cs v) (length cs)
 
 abbrev pub nearest : List Corner → Corner → NearestPoint
 nearest cs v = values cs v (feature cs v)
-
--- of the edge from p to q, with the corners before and after it
-abbrev pub nearestPart : Corner → Corner → Corner → Corner → Corner → Part
-nearestPart v before p q after =
-    cond (isRight v p q)
-    (cond (footIsBetween v p q) Between
-    (cond (cornerIsNearest v before p q) Start
-    (cond (cornerIsNearest v p q after) End None)))
-    None

@@ -1,6 +1,7 @@
 -- The corners of a list of numbers, and the numbers of the following corner and of the one before.
 --     next-suc, next-last            the corner after i is i + 1, and after the last it is corner 0
 --     next-below, previous-below     it is a corner of the outline, and so is the one before
+--     before-below, after-below      the same of numbers that are equal to them
 --     next-other, next-next-other    it is another corner, and the one after it is a third
 --     next-previous, previous-next   after the corner before i comes i, and before the one after it
 --     next-not-previous              the corner before is not the one after
@@ -54,6 +55,12 @@ next-next-other n i three = ⊎-elim
 pub previous-below : (n i : ℕ) → i < n → previous n i < n
 previous-below n zero below = omega arith
 previous-below n (suc i) below = omega arith
+
+pub before-below : {n i b : ℕ} → b ≡ previous n i → i < n → b < n
+before-below {n} {i} is below = rw is (previous-below n i below)
+
+pub after-below : {n i a : ℕ} → a ≡ next n i → i < n → a < n
+after-below {n} {i} is below = rw is (next-below n i (omega arith))
 
 pub next-previous : (n i : ℕ) → i < n → next n (previous n i) ≡ i
 next-previous n zero below = next-last n (n - 1) (omega arith)

@@ -3,7 +3,6 @@ pub mod Corners
 pub mod Convex
 pub mod Refusal
 pub mod Checks
-pub mod Edge
 pub mod Turns
 pub mod Reading
 pub mod Applies

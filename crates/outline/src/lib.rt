@@ -1,11 +1,5 @@
-// Reading an outline from a list of numbers: its corners, what is refused and why, and the value that holds an accepted one.
-pub mod checks;
-pub mod corners;
-pub mod refusals;
-
+// What reading an outline answers: the value that holds an accepted one, and what is refused and why.
 use plane::Corner;
-ghost use mathlib.Core.Path.{_≡_};
-ghost use Rattle.outline.specs.Reading.{reading};
 
 // How few and how many corners an outline can have.
 pub const FEWEST: usize = 3;
@@ -68,20 +62,4 @@ pub enum Fault {
 pub enum Check {
     Passed,
     Failed(Fault),
-}
-
-// Reads the outline that a list gives. A refusal names the side `whose`.
-pub fn read(s: &[i32], whose: RefusedSide) -> Reading
-    ensures { λ r. ⌜ r ≡ reading whose (now (s .entry)) ⌝ }
-{
-    match checks::check(s) {
-        Check::Passed => Reading {
-            verdict: Verdict::Taken,
-            outline: corners::hold(s),
-        },
-        Check::Failed(f) => Reading {
-            verdict: Verdict::Refused(refusals::refusal(whose, f)),
-            outline: corners::hold(&[]),
-        },
-    }
 }

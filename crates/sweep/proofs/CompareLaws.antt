@@ -25,7 +25,7 @@ use Rattle.outline.specs.Convex.{IsOutline}
 use Rattle.outline.specs.Corners.{corner, next, previous, most, cornersOf}
 use Rattle.outline.proofs.Acceptance.{accepted-polygon}
 use Rattle.outline.proofs.HeldLaws.{length-cornersOf, cornersOf-corner}
-use Rattle.nearest.proofs.Pass.{before-below, after-below}
+use Rattle.outline.proofs.CornersLaws.{before-below, after-below}
 use Rattle.hausdorff.specs.declared.Side.{Side}
 use Rattle.hausdorff.specs.declared.Side.the-variants.{A, B}
 use Rattle.hausdorff.specs.declared.WorstSoFar.{WorstSoFar}

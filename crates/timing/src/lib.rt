@@ -5,8 +5,8 @@ use nearest::NearestAnswer;
 use outline::Outline;
 use outline::RefusedSide;
 use outline::Verdict;
-use outline::corners;
 use plane::Corner;
+use reading::corners;
 ghost use Rattle.outline.specs.Convex.{IsOutline};
 
 fn greater(a: u64, b: u64) -> u64 {
@@ -41,7 +41,7 @@ fn found(v: Corner, o: Outline) -> u64
     if !plane::in_range(v) {
         return 0;
     }
-    let a = nearest::nearest(o, v);
+    let a = projection::nearest(o, v);
     a.gap.upper
 }
 
@@ -62,7 +62,7 @@ fn each_found(o: Outline, points: &[i32]) -> u64
 // The core for each point: the outline is read once.
 #[no_mangle]
 pub extern "C" fn timing_core(s: &[i32], points: &[i32]) -> u64 {
-    let reading = outline::read(s, RefusedSide::NoSide);
+    let reading = reading::read(s, RefusedSide::NoSide);
     let verdict = reading.verdict;
     if let Verdict::Refused(_) = verdict {
         return 0;
@@ -98,7 +98,7 @@ pub extern "C" fn timing_compare(a: &[i32], b: &[i32], turns: u32) -> u64 {
 
 // How many corners a list gives, or 0 where it is refused.
 fn read(s: &[i32]) -> u64 {
-    let reading = outline::read(s, RefusedSide::NoSide);
+    let reading = reading::read(s, RefusedSide::NoSide);
     reading.outline.count as u64
 }
 

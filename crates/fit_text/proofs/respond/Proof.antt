@@ -11,7 +11,7 @@ use Rattle.text.specs.Output.{room, held, appended}
 use Rattle.text.proofs.OutputLaws.{held-appended}
 use Rattle.hausdorff.specs.declared.Comparison.{Comparison}
 use Rattle.fit_lines.specs.Lines.{comparisonText}
-use Rattle.fit_text.specs.declared.reading.Outcome.the-variants.{Compared, Unreadable}
+use Rattle.fit_text.specs.declared.parsing.Outcome.the-variants.{Compared, Unreadable}
 use Rattle.fit_text.specs.Input.{outcome}
 use Rattle.fit_text.specs.Response.{mostBytes, judged, response}
 use Rattle.fit_text.proofs.ResponseLaws.{response-fits}

@@ -2,7 +2,7 @@
 use Prim.Native.Nat.{_-_}
 use native.Mathlib.Omega.{arith}
 use Rattle.outline.proofs.HeldLaws.{length-mapped}
-use Rattle.nearest.proofs.Pass.{before-below, after-below}
+use Rattle.outline.proofs.CornersLaws.{before-below, after-below}
 use Rattle.sweep.proofs.CompareLaws.{window-read, Running, run-begins, run-can-step, run-on, run-ends}
 use Rattle.sweep.proofs.make_steps.Statement.{statement}
 use Rattle.sweep.proofs.make_steps.Tie as tie

@@ -1,0 +1,3 @@
+-- What the code of the nearest point stands on.
+pub mod Sizes
+pub mod Pass

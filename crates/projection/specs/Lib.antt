@@ -1,0 +1,2 @@
+-- What the code of the nearest point needs beside the definitions of `nearest`.
+pub mod Part

@@ -1,0 +1,96 @@
+-- `reading::checks::check_edge` takes the edge out of the list once and tests the corners against it in order.
+use borrow.Author.Needs.{needs}
+use mathlib.Core.Bool.{Bool}
+use mathlib.Core.List.{List}
+use mathlib.Core.Path.{_≡_}
+use native.Mathlib.Omega.{arith}
+use Prim.Native.Nat.{ℕ, _<_, _-_}
+use lib.ListN.{length}
+use Rattle.plane.specs.declared.Corner.{Corner}
+use Rattle.plane.specs.Range.{InRange, Span, reach}
+use Rattle.plane.proofs.Range.{span-⇀}
+use Rattle.reading.specs.declared.checks.Edge.{Edge}
+use Rattle.outline.specs.declared.Fault.the-variants.{NotLeft}
+use Rattle.outline.specs.Convex.{AllInRange}
+use Rattle.outline.specs.Corners.{corners, corner}
+use Rattle.reading.specs.Edge.{edgeOf, isNotLeftOf}
+use Rattle.outline.specs.Reading.{isNotLeft, notLeftOf}
+use Rattle.outline.proofs.ChecksLaws.{Testing, test-start, test-on, test-found, test-none}
+use Rattle.outline.proofs.CornersLaws.{next-below}
+use Rattle.reading.proofs.checks.check_edge.Statement.{statement}
+use Rattle.reading.proofs.checks.check_edge.Tie as tie
+
+-- corner c is decided by what `is_not_left` answers of the edge and the corner that were taken out of the list
+decided : (cs : List Corner) (e c : ℕ) {edge : Edge} {v : Corner} {r t : Bool}
+    → edge ≡ edgeOf cs e → v ≡ corner cs c → r ≡ isNotLeftOf edge c v → r ≡ t → isNotLeft cs e c ≡ t
+decided cs e c took read answer is = cc
+
+-- what `is_not_left` asks of the edge
+in-reach : (cs : List Corner) (e : ℕ) {edge : Edge}
+    → edge ≡ edgeOf cs e → e < length cs → AllInRange cs → Span reach (edge .run) × InRange (edge .from)
+in-reach cs e taken known all =
+    rw taken (span-⇀ (all e known) (all _ (next-below (length cs) e (omega arith))), all e known)
+
+abbrev Inv-loop : tie.InvT-loop
+Inv-loop s e n edge c₀ c = Testing (isNotLeft (corners s) e) (NotLeft e) (length (corners s)) c
+
+abbrev μ-loop : tie.MeasureT-loop
+μ-loop s e n edge c₀ c = n - c
+
+count-requires : tie.Need-count-requires Inv-loop μ-loop
+count-requires c κs = search needs
+
+take-edge-requires : tie.Need-take-edge-requires Inv-loop μ-loop
+take-edge-requires c κs = c .before .pre .0
+
+loop-holds : tie.Need-loop-holds Inv-loop μ-loop
+loop-holds c = test-start _ _ _
+
+corner-requires : tie.Need-corner-requires Inv-loop μ-loop
+corner-requires c κs = omega arith
+
+is-not-left-requires : tie.Need-is-not-left-requires Inv-loop μ-loop
+is-not-left-requires c κs =
+    let pre = c .before .before .before .before .before .pre in
+    let edge-in = in-reach (corners _) _ (c .before .before .before .take-edge .ensures) (pre .0) (pre .1) in
+    (edge-in .0, (edge-in .1, rw (c .corner .ensures) (pre .1 _ (omega arith))))
+
+returns : tie.Need-returns Inv-loop μ-loop
+unfolding notLeftOf
+returns c =
+    test-found (c .before .before .before .before .loop .inv) (omega arith) (decided (corners _) _ _
+    (c .before .before .before .before .before .take-edge .ensures) (c .before .before .corner .ensures)
+    (c .before .is-not-left .ensures) (c .if1 .taken))
+
+add-c : tie.Need-add-c Inv-loop μ-loop
+add-c c = omega arith
+
+loop-less : tie.Need-loop-less Inv-loop μ-loop
+loop-less c = omega arith
+
+loop-again : tie.Need-loop-again Inv-loop μ-loop
+loop-again c =
+    test-on (c .before .before .before .before .loop .inv) (omega arith) (decided (corners _) _ _
+    (c .before .before .before .before .before .take-edge .ensures) (c .before .before .corner .ensures)
+    (c .before .is-not-left .ensures) (c .if1 .left))
+
+returns-2 : tie.Need-returns-2 Inv-loop μ-loop
+unfolding notLeftOf
+returns-2 c = test-none (c .before .loop .inv) (omega arith)
+
+pub check-edge-spec : {M : Type 1} → statement M
+check-edge-spec =
+    tie.close
+    (tie.spec
+    Inv-loop
+    μ-loop
+    count-requires
+    take-edge-requires
+    loop-holds
+    corner-requires
+    is-not-left-requires
+    returns
+    add-c
+    loop-less
+    loop-again
+    returns-2)

@@ -1,0 +1,68 @@
+-- `reading::checks::check_range` tests the corners in order.
+use borrow.Author.Needs.{needs}
+use mathlib.Core.Bool.{not}
+use native.Mathlib.Omega.{arith}
+use Prim.Native.Nat.{_-_}
+use lib.ListN.{length}
+use Rattle.plane.specs.Range.{inRange}
+use Rattle.outline.specs.declared.Fault.the-variants.{OutOfRange}
+use Rattle.outline.specs.Corners.{corners, corner}
+use Rattle.outline.specs.Reading.{outOfRange}
+use Rattle.outline.proofs.ChecksLaws.{Testing, test-start, test-on, test-found, test-none}
+use Rattle.reading.proofs.checks.check_range.Statement.{statement}
+use Rattle.reading.proofs.checks.check_range.Tie as tie
+
+abbrev Inv-loop : tie.InvT-loop
+Inv-loop s n i₀ i = Testing (λ j. not (inRange (corner (corners s) j))) OutOfRange (length (corners s)) i
+
+abbrev μ-loop : tie.MeasureT-loop
+μ-loop s n i₀ i = n - i
+
+count-requires : tie.Need-count-requires Inv-loop μ-loop
+count-requires c κs = search needs
+
+loop-holds : tie.Need-loop-holds Inv-loop μ-loop
+loop-holds c = test-start _ _ _
+
+corner-requires : tie.Need-corner-requires Inv-loop μ-loop
+corner-requires c κs = omega arith
+
+in-range-requires : tie.Need-in-range-requires Inv-loop μ-loop
+in-range-requires c κs = search needs
+
+returns : tie.Need-returns Inv-loop μ-loop
+unfolding outOfRange
+returns c =
+    test-found (c .before .before .before .before .loop .inv) (omega arith)
+    (rw (c .before .in-range .ensures, c .before .before .corner .ensures) at (c .if1 .taken))
+
+add-i : tie.Need-add-i Inv-loop μ-loop
+add-i c = omega arith
+
+loop-less : tie.Need-loop-less Inv-loop μ-loop
+loop-less c = omega arith
+
+loop-again : tie.Need-loop-again Inv-loop μ-loop
+loop-again c =
+    test-on (c .before .before .before .before .loop .inv) (omega arith)
+    (rw (c .before .in-range .ensures, c .before .before .corner .ensures) at (c .if1 .left))
+
+returns-2 : tie.Need-returns-2 Inv-loop μ-loop
+unfolding outOfRange
+returns-2 c = test-none (c .before .loop .inv) (omega arith)
+
+pub check-range-spec : {M : Type 1} → statement M
+check-range-spec =
+    tie.close
+    (tie.spec
+    Inv-loop
+    μ-loop
+    count-requires
+    loop-holds
+    corner-requires
+    in-range-requires
+    returns
+    add-i
+    loop-less
+    loop-again
+    returns-2)

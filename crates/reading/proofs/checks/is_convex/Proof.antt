@@ -1,0 +1,136 @@
+-- `reading::checks::is_convex` tests the corners in order, each with the two before it.
+use borrow.Author.Needs.{needs}
+use borrow.Author.Tests.{not-true, not-false}
+use mathlib.Core.Bool.{Bool}
+use mathlib.Core.List.{List}
+use mathlib.Core.Path.{_≡_}
+use native.Mathlib.Omega.{arith}
+use Prim.Native.Nat.{ℕ, suc, _+_, _-_, _<_}
+use lib.ListN.{length}
+use Rattle.plane.specs.declared.Corner.{Corner}
+use Rattle.plane.specs.declared.Vector.{Vector}
+use Rattle.plane.specs.Range.{InRange}
+use Rattle.plane.specs.Vector.{_⇀_}
+use Rattle.plane.proofs.Range.{span-difference}
+use Rattle.outline.specs.Convex.{AllInRange}
+use Rattle.outline.specs.Corners.{corners, corner}
+use Rattle.outline.specs.Turns.{all, keepsLeft, keepsLeftAt, isConvex}
+use Rattle.outline.proofs.TurnsLaws.{Passing, pass-start, pass-on, pass-stop, pass-all}
+use Rattle.reading.proofs.checks.is_convex.Statement.{statement}
+use Rattle.reading.proofs.checks.is_convex.Tie as tie
+
+abbrev Inv-loop : tie.InvT-loop
+Inv-loop s n from run i₀ i = Passing (keepsLeftAt (corners s)) (length (corners s) - 2) i
+
+abbrev μ-loop : tie.MeasureT-loop
+μ-loop s n from run i₀ i = n - i
+
+-- corner i + 2 is decided by what `keeps_left` answers of the corners that were taken out of the list
+decided : (cs : List Corner) (i : ℕ) {from second p q v : Corner} {run : Vector} {r t : Bool}
+    → from ≡ corner cs 0 → second ≡ corner cs 1 → run ≡ from ⇀ second → p ≡ corner cs i → q ≡ corner cs (i + 1) → v ≡ corner cs (i + 2)
+    → r ≡ keepsLeft from run p q v → r ≡ t → keepsLeftAt cs i ≡ t
+decided cs i is-from is-second is-run is-p is-q is-v answer is =
+    let next : i + 1 ≡ suc i = omega arith in let after : i + 2 ≡ suc (suc i) = omega arith in cc
+
+-- a corner that was taken out of the list is in range
+known : (cs : List Corner) (i : ℕ) {p : Corner} → AllInRange cs → p ≡ corner cs i → i < length cs → InRange p
+known cs i all is below = rw is (all i below)
+
+count-requires : tie.Need-count-requires Inv-loop μ-loop
+count-requires c κs = search needs
+
+returns : tie.Need-returns Inv-loop μ-loop
+unfolding isConvex all
+returns c = let none : length (corners (c .before .before .args .s .now)) - 2 ≡ 0 = omega arith in rw none
+
+corner-requires : tie.Need-corner-requires Inv-loop μ-loop
+corner-requires c κs = omega arith
+
+corner-requires-2 : tie.Need-corner-requires-2 Inv-loop μ-loop
+corner-requires-2 c κs = omega arith
+
+difference-requires : tie.Need-difference-requires Inv-loop μ-loop
+difference-requires c κs = search needs
+
+loop-holds : tie.Need-loop-holds Inv-loop μ-loop
+loop-holds c = pass-start _ _
+
+add-loop : tie.Need-add-loop Inv-loop μ-loop
+add-loop c = omega arith
+
+corner-requires-3 : tie.Need-corner-requires-3 Inv-loop μ-loop
+corner-requires-3 c κs = omega arith
+
+add-corner : tie.Need-add-corner Inv-loop μ-loop
+add-corner c = omega arith
+
+corner-requires-4 : tie.Need-corner-requires-4 Inv-loop μ-loop
+corner-requires-4 c κs = omega arith
+
+add-corner-2 : tie.Need-add-corner-2 Inv-loop μ-loop
+add-corner-2 c = omega arith
+
+corner-requires-5 : tie.Need-corner-requires-5 Inv-loop μ-loop
+corner-requires-5 c κs = omega arith
+
+keeps-left-requires : tie.Need-keeps-left-requires Inv-loop μ-loop
+keeps-left-requires c κs =
+    let all = c .before .before .before .before .before .before .before .before .before .before .pre in
+    let from-in = known (corners _) 0 all (c .before .before .before .before .before .before .before .corner .ensures) (omega arith) in
+    let second-in = known (corners _) 1 all (c .before .before .before .before .before .before .corner2 .ensures) (omega arith) in
+    let run-in = span-difference (c .before .before .before .before .before .difference .ensures) from-in second-in in
+    let p-in = known (corners _) _ all (c .before .before .corner3 .ensures) (omega arith) in
+    let q-in = known (corners _) _ all (c .before .corner4 .ensures) (omega arith) in
+    (run-in, (from-in, (p-in, (q-in, known (corners _) _ all (c .corner5 .ensures) (omega arith)))))
+
+returns-2 : tie.Need-returns-2 Inv-loop μ-loop
+unfolding isConvex
+returns-2 c =
+    let taken = c .before .before in let begun = taken .before .before .before .before .before in
+    pass-stop (c .before .before .before .before .before .before .loop .inv) (omega arith)
+    (decided (corners _) _ (begun .before .before .corner .ensures) (begun .before .corner2 .ensures) (begun .difference .ensures)
+    (taken .before .before .corner3 .ensures) (taken .before .corner4 .ensures) (taken .corner5 .ensures) (c .before .keeps-left .ensures)
+    (not-true (c .before .keeps-left .result) (c .if2 .taken)))
+
+add-i : tie.Need-add-i Inv-loop μ-loop
+add-i c = omega arith
+
+loop-less : tie.Need-loop-less Inv-loop μ-loop
+loop-less c = omega arith
+
+loop-again : tie.Need-loop-again Inv-loop μ-loop
+loop-again c =
+    let taken = c .before .before in let begun = taken .before .before .before .before .before in
+    pass-on (c .before .before .before .before .before .before .loop .inv) (omega arith)
+    (decided (corners _) _ (begun .before .before .corner .ensures) (begun .before .corner2 .ensures) (begun .difference .ensures)
+    (taken .before .before .corner3 .ensures) (taken .before .corner4 .ensures) (taken .corner5 .ensures) (c .before .keeps-left .ensures)
+    (not-false (c .before .keeps-left .result) (c .if2 .left)))
+
+returns-3 : tie.Need-returns-3 Inv-loop μ-loop
+unfolding isConvex
+returns-3 c = pass-all (c .before .loop .inv) (omega arith)
+
+pub is-convex-spec : {M : Type 1} → statement M
+is-convex-spec =
+    tie.close
+    (tie.spec
+    Inv-loop
+    μ-loop
+    count-requires
+    returns
+    corner-requires
+    corner-requires-2
+    difference-requires
+    loop-holds
+    add-loop
+    corner-requires-3
+    add-corner
+    corner-requires-4
+    add-corner-2
+    corner-requires-5
+    keeps-left-requires
+    returns-2
+    add-i
+    loop-less
+    loop-again
+    returns-3)

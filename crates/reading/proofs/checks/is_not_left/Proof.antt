@@ -1,0 +1,45 @@
+-- `reading::checks::is_not_left` leaves the edge's two ends out and then goes by the side number's sign.
+use borrow.Author.Needs.{needs, sfits-of}
+use mir.Facts.{toZ-ofZ}
+use mir.Val.{SFits}
+use borrow.Author.Tests.{eq-eqb, ne-eqb}
+use mathlib.Core.Bool.{Bool, false, not, _&&_}
+use mathlib.Core.Path.{_≡_}
+use Prim.Native.Nat.{ℕ}
+use lib.Dec.{eqb}
+use mir.Syntax.{w64}
+use Rattle.plane.proofs.Range.{span-difference}
+use Rattle.reading.proofs.checks.is_not_left.Statement.{statement}
+use Rattle.reading.proofs.checks.is_not_left.Tie as tie
+
+-- three tests in a row
+module _ (c e f : ℕ) (b : Bool) where
+  at-start : c ≡ e → false ≡ (not (eqb c e) && not (eqb c f) && b)
+  at-start start = rw (eq-eqb c e start)
+
+  at-end : (c ≡ e → ⊥) → c ≡ f → false ≡ (not (eqb c e) && not (eqb c f) && b)
+  at-end other end = rw (ne-eqb c e other, eq-eqb c f end)
+
+  elsewhere : (c ≡ e → ⊥) → (c ≡ f → ⊥) → b ≡ (not (eqb c e) && not (eqb c f) && b)
+  elsewhere other another = rw (ne-eqb c e other, ne-eqb c f another)
+
+returns : tie.Need-returns
+returns c = at-start _ _ _ _ (c .if1 .taken)
+
+returns-2 : tie.Need-returns-2
+returns-2 c = at-end _ _ _ _ (c .before .before .if1 .left) (c .if2 .taken)
+
+difference-requires : tie.Need-difference-requires
+difference-requires c κs = search needs
+
+side-requires : tie.Need-side-requires
+side-requires c κs = search span-difference
+
+returns-3 : tie.Need-returns-3
+returns-3 c =
+    let side-fits : SFits w64 (c .side .result) = search sfits-of in
+    rw (toZ-ofZ side-fits, c .side .ensures, c .before .difference .ensures)
+    (elsewhere _ _ _ _ (c .before .before .before .before .if1 .left) (c .before .before .if2 .left))
+
+pub is-not-left-spec : {M : Type 1} → statement M
+is-not-left-spec = tie.close (tie.spec returns returns-2 difference-requires side-requires returns-3)

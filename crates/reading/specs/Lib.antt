@@ -1,0 +1,2 @@
+-- What the code of reading needs beside the definitions of `outline`.
+pub mod Edge
