@@ -71,7 +71,7 @@ pub fn compare(a: &[i32], b: &[i32], allowance: u32) -> Comparison
     if let Verdict::Refused(refusal) = verdict_b {
         return Comparison::Refused(refusal);
     }
-    match sweep::compare(reading_a.outline, reading_b.outline, allowance) {
+    match comparing::compare(reading_a.outline, reading_b.outline, allowance) {
         Report::Spent(spent) => Comparison::Spent(spent),
         Report::Done(done) => Comparison::Done(done),
     }

@@ -1,4 +1,4 @@
--- `sweep::reporting::worse` goes by the order of the two gaps.
+-- `comparing::reporting::worse` goes by the order of the two gaps.
 use borrow.Author.Needs.{needs}
 use Prim.Native.Nat.{_*_}
 use mathlib.Core.Bool.{Bool, true, false, cond}
@@ -8,8 +8,8 @@ use Rattle.integers.specs.declared.fraction.Order.{Order}
 use Rattle.integers.specs.declared.fraction.Order.the-variants.{Less, Equal, Greater}
 use Rattle.hausdorff.specs.declared.CornerGap.{CornerGap}
 use Rattle.hausdorff.specs.CornerGap.{worse}
-use Rattle.sweep.proofs.reporting.worse.Statement.{statement}
-use Rattle.sweep.proofs.reporting.worse.Tie as tie
+use Rattle.comparing.proofs.reporting.worse.Statement.{statement}
+use Rattle.comparing.proofs.reporting.worse.Tie as tie
 
 -- what is answered for an order of the two gaps
 abbrev answered : Order → CornerGap → CornerGap → CornerGap

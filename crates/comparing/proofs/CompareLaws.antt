@@ -36,12 +36,13 @@ use Rattle.hausdorff.specs.Worst.{overall}
 use Rattle.hausdorff.specs.Report.{orWithin, spent, done, report}
 use Rattle.hausdorff.specs.Lowest.{LowestLeftmost}
 use Rattle.hausdorff.proofs.WorstLaws.{support-known}
 use Rattle.sweep.specs.declared.State.{State}
 use Rattle.measuring.specs.declared.Window.{Window}
 use Rattle.measuring.specs.Window.{windowAt}
 use Rattle.measuring.specs.Changes.{BoundedWorst}
-use Rattle.sweep.specs.State.{sideState, IsAfter, CanStep, BoundedState, beginning, reported}
-use Rattle.sweep.proofs.BeginLaws.{begins-after}
+use Rattle.sweep.specs.State.{sideState, IsAfter, CanStep, BoundedState}
+use Rattle.comparing.specs.Comparing.{beginning, reported}
+use Rattle.comparing.proofs.BeginLaws.{begins-after}
 
 -- the worse of two is one of them
 overall-bounded : (v w : WorstSoFar) → BoundedWorst v → BoundedWorst w → BoundedWorst (overall v w)
@@ -83,10 +84,10 @@ reported-after pair allowance state = go (ltb allowance (stepCount pair))
 abbrev pub pairOf : Outline → Outline → Pair
 pairOf a b = both (cornersOf a) (cornersOf b)
 
--- the corners are in the places of their numbers; `near-before` and `near-after` are those that the far ones are counted from
-pub window-read : (o : Outline) {i near-before farbefore before after near-after farafter : ℕ} → o .count ≡ length (cornersOf o)
-    → i < o .count → near-before ≡ previous (o .count) i → farbefore ≡ previous (o .count) near-before → before ≡ previous (o .count) i
-    → after ≡ next (o .count) i → near-after ≡ next (o .count) i → farafter ≡ next (o .count) near-after
+-- the corners are in the places of their numbers
+pub window-read : (o : Outline) {i farbefore before after farafter : ℕ} → o .count ≡ length (cornersOf o)
+    → i < o .count → before ≡ previous (o .count) i → farbefore ≡ previous (o .count) before → after ≡ next (o .count) i
+    → farafter ≡ next (o .count) after
     → _≡_ {A = Window} (record {
       count = o .count;
       number = i;
@@ -96,16 +97,15 @@ pub window-read : (o : Outline) {i near-before farbefore before after near-after
       after = corner (o .corners) after;
       farafter = corner (o .corners) farafter;
     }) (windowAt (cornersOf o) i)
-window-read o {i} {near-before} {farbefore} {before} {after} {near-after} {farafter}
-    counted known near-before-is farbefore-is before-is after-is near-after-is farafter-is =
+window-read o {i} {farbefore} {before} {after} {farafter} counted known before-is farbefore-is after-is farafter-is =
     let read : (j : ℕ) → j < o .count → corner (cornersOf o) j ≡ corner (o .corners) j = cornersOf-corner o in
     cc (
       counted,
       read i known,
       read before (before-below before-is known),
       read after (after-below after-is known),
-      read farbefore (before-below farbefore-is (before-below near-before-is known)),
-      read farafter (after-below farafter-is (after-below near-after-is known)),
+      read farbefore (before-below farbefore-is (before-below before-is known)),
+      read farafter (after-below farafter-is (after-below after-is known)),
     )
 
 pub record Neighbours (n i : ℕ) : Type 0 where

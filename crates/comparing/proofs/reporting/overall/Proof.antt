@@ -1,7 +1,7 @@
--- `sweep::reporting::overall` goes by which of the two there are.
+-- `comparing::reporting::overall` goes by which of the two there are.
 use borrow.Author.Needs.{needs}
-use Rattle.sweep.proofs.reporting.overall.Statement.{statement}
-use Rattle.sweep.proofs.reporting.overall.Tie as tie
+use Rattle.comparing.proofs.reporting.overall.Statement.{statement}
+use Rattle.comparing.proofs.reporting.overall.Tie as tie
 
 enum-told : tie.Need-enum-told
 enum-told c = search needs

@@ -1,8 +1,8 @@
--- `sweep::reporting::report` builds the report from the worst so far of both sides.
+-- `comparing::reporting::report` builds the report from the worst so far of both sides.
 use borrow.Author.Needs.{needs}
-use Rattle.sweep.proofs.CompareLaws.{answer-positive}
-use Rattle.sweep.proofs.reporting.report.Statement.{statement}
-use Rattle.sweep.proofs.reporting.report.Tie as tie
+use Rattle.comparing.proofs.CompareLaws.{answer-positive}
+use Rattle.comparing.proofs.reporting.report.Statement.{statement}
+use Rattle.comparing.proofs.reporting.report.Tie as tie
 
 overall-requires : tie.Need-overall-requires
 overall-requires c κs = search needs

@@ -1,5 +1,4 @@
 // What a sweep reports.
-use crate::State;
 use hausdorff::CornerGap;
 use hausdorff::Done;
 use hausdorff::Report;
@@ -13,6 +12,7 @@ use integers::fraction::Order;
 use integers::root;
 use plane::Corner;
 use projection::answers;
+use sweep::State;
 ghost use mathlib.Core.Path.{_≡_};
 ghost use Prim.Native.Nat.{_<_};
 ghost use Rattle.integers.specs.Fraction.{Bounded};
@@ -20,7 +20,8 @@ ghost use Rattle.hausdorff.specs.CornerGap.{worse};
 ghost use Rattle.hausdorff.specs.Worst.{overall};
 ghost use Rattle.hausdorff.specs.Report.{orWithin, clearance};
 ghost use Rattle.measuring.specs.Changes.{BoundedWorst};
-ghost use Rattle.sweep.specs.State.{BoundedState, reported};
+ghost use Rattle.sweep.specs.State.{BoundedState};
+ghost use Rattle.comparing.specs.Comparing.{reported};
 
 // The one with the greater gap; the first of equals.
 fn worse(w: CornerGap, z: CornerGap) -> CornerGap

@@ -1,13 +1,13 @@
--- `sweep::compare` makes the steps that are allowed, at most all, and reports.
+-- `comparing::compare` makes the steps that are allowed, at most all, and reports.
 use borrow.Author.Tests.{ltb-true}
 use mathlib.Core.Path.{_∙_}
 use mathlib.Core.Logic.{⊎-elim}
 use native.Mathlib.Omega.{arith}
 use Rattle.outline.proofs.HeldLaws.{length-mapped}
 use Rattle.sweep.proofs.StepLaws.{after-bounded}
-use Rattle.sweep.proofs.CompareLaws.{outlines-accepted, compare-reports}
-use Rattle.sweep.proofs.compare.Statement.{statement}
-use Rattle.sweep.proofs.compare.Tie as tie
+use Rattle.comparing.proofs.CompareLaws.{outlines-accepted, compare-reports}
+use Rattle.comparing.proofs.compare.Statement.{statement}
+use Rattle.comparing.proofs.compare.Tie as tie
 
 add-total : tie.Need-add-total
 add-total c = omega (arith, c .before .pre .0 .fits, c .before .pre .1 .fits)

@@ -1,7 +1,7 @@
--- `sweep::reporting::answer` is the worst so far or, where it is none, A's corner 0, within.
+-- `comparing::reporting::answer` is the worst so far or, where it is none, A's corner 0, within.
 use borrow.Author.Needs.{needs}
-use Rattle.sweep.proofs.reporting.answer.Statement.{statement}
-use Rattle.sweep.proofs.reporting.answer.Tie as tie
+use Rattle.comparing.proofs.reporting.answer.Statement.{statement}
+use Rattle.comparing.proofs.reporting.answer.Tie as tie
 
 enum-known-worst : tie.Need-enum-known-worst
 enum-known-worst c = search needs

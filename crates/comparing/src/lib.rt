@@ -1,0 +1,114 @@
+// Comparing two outlines by a sweep of both: where the sweep begins, its steps, and the comparison. `reporting` has what it reports.
+pub mod reporting;
+
+use hausdorff::Report;
+use hausdorff::WorstSoFar;
+use measuring::Window;
+use outline::Outline;
+use plane::Corner;
+use reading::corners::next;
+use reading::corners::previous;
+use sweep::SideState;
+use sweep::State;
+ghost use mathlib.Core.Path.{_≡_};
+ghost use Prim.Native.Nat.{_+_, _≤_};
+ghost use Rattle.outline.specs.Convex.{IsOutline};
+ghost use Rattle.outline.specs.Corners.{cornersOf};
+ghost use Rattle.hausdorff.specs.Pair.{both};
+ghost use Rattle.hausdorff.specs.Report.{report};
+ghost use Rattle.hausdorff.specs.Lowest.{LowestLeftmost};
+ghost use Rattle.sweep.specs.State.{IsAfter};
+ghost use Rattle.comparing.specs.Comparing.{isLower, beginning};
+
+// Whether p is lower than q or, at the same height, left of it.
+fn is_lower(p: Corner, q: Corner) -> bool
+    ensures { λ r. ⌜ r ≡ isLower p q ⌝ }
+{
+    if p.y == q.y { p.x < q.x } else { p.y < q.y }
+}
+
+// The number of the lowest corner, of several the leftmost: there the outline's first edge in the angular order starts.
+fn lowest(o: Outline) -> usize
+    requires { ⌜ IsOutline o ⌝ }
+    ensures { λ r. ⌜ LowestLeftmost (cornersOf o) r ⌝ }
+{
+    let n = o.count;
+    let mut found = 0;
+    let mut i = 1;
+    while i < n {
+        if is_lower(o.corners[i], o.corners[found]) {
+            found = i;
+        }
+        i += 1;
+    }
+    found
+}
+
+// One side's part before step 1, where `lowest` is its outline's lowest, leftmost corner.
+fn begin(lowest: usize, count: usize) -> SideState
+    ensures { λ r. ⌜ r ≡ beginning lowest count ⌝ }
+{
+    SideState {
+        support: lowest,
+        remaining: count,
+        worst: WorstSoFar::None,
+    }
+}
+
+// The sweep after `steps` steps. No step copies an outline.
+fn make_steps(a: Outline, b: Outline, steps: u32) -> State
+    requires { ⌜ IsOutline a ⌝ }
+    requires { ⌜ IsOutline b ⌝ }
+    requires { ⌜ steps ≤ a .count + b .count ⌝ }
+    ensures { λ r. ⌜ IsAfter (both (cornersOf a) (cornersOf b)) steps r ⌝ }
+{
+    let n = a.count;
+    let m = b.count;
+    let mut state = State {
+        a: begin(lowest(a), n),
+        b: begin(lowest(b), m),
+    };
+    let mut k = 0;
+    while k < steps {
+        let i = state.a.support;
+        let before_a = previous(n, i);
+        let after_a = next(n, i);
+        let window_a = Window {
+            count: n,
+            number: i,
+            farbefore: a.corners[previous(n, before_a)],
+            before: a.corners[before_a],
+            corner: a.corners[i],
+            after: a.corners[after_a],
+            farafter: a.corners[next(n, after_a)],
+        };
+        let j = state.b.support;
+        let before_b = previous(m, j);
+        let after_b = next(m, j);
+        let window_b = Window {
+            count: m,
+            number: j,
+            farbefore: b.corners[previous(m, before_b)],
+            before: b.corners[before_b],
+            corner: b.corners[j],
+            after: b.corners[after_b],
+            farafter: b.corners[next(m, after_b)],
+        };
+        state = state.step(window_a, window_b);
+        k += 1;
+    }
+    state
+}
+
+// Compares two outlines: as many steps as are allowed, at most one for each edge of both.
+pub fn compare(a: Outline, b: Outline, allowance: u32) -> Report
+    requires { ⌜ IsOutline a ⌝ }
+    requires { ⌜ IsOutline b ⌝ }
+    ensures { λ r. ⌜ r ≡ report (both (cornersOf a) (cornersOf b)) allowance ⌝ }
+{
+    let total = (a.count + b.count) as u32;
+    let is_spent = allowance < total;
+    let steps = if is_spent { allowance } else { total };
+    let state = make_steps(a, b, steps);
+    reporting::report(state, steps, is_spent, a.corners[0])
+}
