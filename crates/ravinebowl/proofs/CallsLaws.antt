@@ -24,8 +24,8 @@ use Rattle.nearest.specs.Call.{nearestAnswer}
 use Rattle.hausdorff.specs.declared.Comparison.{Comparison}
 use Rattle.hausdorff.specs.declared.Comparison.the-variants.{Refused, Spent, Done}
 use Rattle.hausdorff.specs.Call.{comparison}
-use Rattle.ravinebowl.specs.declared.status.Status.{Status}
-use Rattle.ravinebowl.specs.Status.{answered, wrongResultLength}
+use Rattle.encoding.specs.declared.status.Status.{Status}
+use Rattle.encoding.specs.Status.{answered, wrongResultLength}
 use Rattle.ravinebowl.specs.Calls.{compareLength, statusOfComparison, listOfComparison, compareStatus, compareList}
 use Rattle.ravinebowl.specs.Calls.{nearestLength, statusOfNearest, listOfNearest, nearestStatus, nearestList, statusOfVerdict, removalStatus}
 

@@ -1,4 +1,2 @@
 -- Laws about what the exported calls return and write.
-pub mod StatusLaws
-pub mod Signed
 pub mod CallsLaws

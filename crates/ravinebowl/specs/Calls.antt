@@ -21,9 +21,9 @@ use Rattle.nearest.specs.Call.{nearestAnswer}
 use Rattle.hausdorff.specs.declared.Comparison.{Comparison}
 use Rattle.hausdorff.specs.declared.Comparison.the-variants.{Refused, Spent, Done}
 use Rattle.hausdorff.specs.Call.{comparison}
-use Rattle.ravinebowl.specs.declared.status.Status.{Status}
-use Rattle.ravinebowl.specs.Status.{answered, wrongResultLength, refusedStatus}
-use Rattle.ravinebowl.specs.Results.{ofNearest, ofDone, ofSpent}
+use Rattle.encoding.specs.declared.status.Status.{Status}
+use Rattle.encoding.specs.Status.{answered, wrongResultLength, refusedStatus}
+use Rattle.encoding.specs.Results.{ofNearest, ofDone, ofSpent}
 
 abbrev pub nearestLength : ℕ
 nearestLength = 7

@@ -1,18 +1,30 @@
 // The calls as C functions, over lists that the caller lends. None has a `requires`: each takes any lists. A refusal is a status, and a
 // refused call writes to no list. `embed/ravinebowl.h` declares them for C.
-mod results;
-pub mod status;
-
-use crate::results::COMPARE_LENGTH;
-use crate::results::NEAREST_LENGTH;
-use crate::status::Status;
+use encoding::results;
+use encoding::results::COMPARE_LENGTH;
+use encoding::results::NEAREST_LENGTH;
+use encoding::status;
+use encoding::status::Status;
 use hausdorff::Comparison;
 use nearest::NearestAnswer;
 use outline::Verdict;
 use plane::Corner;
 ghost use mathlib.Core.Path.{_≡_};
+ghost use lib.ListN.{length};
 ghost use Rattle.ravinebowl.specs.Calls.{compareStatus, compareList, nearestStatus, nearestList, removalStatus};
 ghost use Rattle.edit.specs.Removal.{listAfter};
+
+// Copies numbers to a list of the same length.
+fn write(numbers: &[i64], list: &mut [i64])
+    requires { ⌜ length (now list) ≡ length (now numbers) ⌝ }
+    ensures { λ _. ⌜ now (list .exit) ≡ now (numbers .entry) ⌝ }
+{
+    let mut i = 0;
+    while i < numbers.len() {
+        list[i] = numbers[i];
+        i += 1;
+    }
+}
 
 // Compares the outlines that the lists `a` and `b` give, in at most `allowance` steps, and writes 14 numbers to `result`.
 // A `result` of another length is judged first; then refusals 1 to 6 for A, then for B. Being spent is no refusal.
@@ -32,11 +44,11 @@ pub extern "C" fn ravinebowl_compare(
     match calls::compare(a, b, allowance) {
         Comparison::Refused(refusal) => status::refused(refusal),
         Comparison::Spent(spent) => {
-            results::write(&results::of_spent(spent), result);
+            write(&results::of_spent(spent), result);
             status::answered()
         }
         Comparison::Done(done) => {
-            results::write(&results::of_done(done), result);
+            write(&results::of_done(done), result);
             status::answered()
         }
     }
@@ -60,7 +72,7 @@ pub extern "C" fn ravinebowl_nearest_point(
     match calls::nearest_point(Corner { x, y }, outline) {
         NearestAnswer::Refused(refusal) => status::refused(refusal),
         NearestAnswer::Found(found) => {
-            results::write(&results::of_nearest(found), result);
+            write(&results::of_nearest(found), result);
             status::answered()
         }
     }

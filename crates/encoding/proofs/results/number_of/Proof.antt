@@ -1,0 +1,42 @@
+-- `encoding::results::number_of` goes by the feature.
+use borrow.Author.Needs.{needs, sfits-of}
+use Rattle.encoding.proofs.Signed.{kept}
+use Rattle.encoding.proofs.results.number_of.Statement.{statement}
+use Rattle.encoding.proofs.results.number_of.Tie as tie
+
+enum-told : tie.Need-enum-told
+enum-told c = search needs
+
+enum-known-feature : tie.Need-enum-known-feature
+enum-known-feature c = search needs
+
+signed-requires : tie.Need-signed-requires
+signed-requires c κs = rw (c .before .feature .given .1) at (c .before .before .before .pre)
+
+enum-known-feature-2 : tie.Need-enum-known-feature-2
+enum-known-feature-2 c = search needs
+
+signed-requires-2 : tie.Need-signed-requires-2
+signed-requires-2 c κs = rw (c .before .feature2 .given .1) at (c .before .before .before .pre)
+
+returns : tie.Need-returns
+returns c = rw (c .enum-told .given .1)
+
+returns-2 : tie.Need-returns-2
+returns-2 c = rw (c .before .before .feature .given .1) (search (kept, sfits-of))
+
+returns-3 : tie.Need-returns-3
+returns-3 c = rw (c .before .before .feature2 .given .1) (search (kept, sfits-of))
+
+pub number-of-spec : {M : Type 1} → statement M
+number-of-spec =
+    tie.close
+    (tie.spec
+    enum-told
+    enum-known-feature
+    signed-requires
+    enum-known-feature-2
+    signed-requires-2
+    returns
+    returns-2
+    returns-3)

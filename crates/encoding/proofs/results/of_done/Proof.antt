@@ -1,0 +1,27 @@
+-- `encoding::results::of_done` is a row with the answer for the worst so far.
+use borrow.Author.Needs.{needs, sfits-of}
+use Rattle.encoding.proofs.Signed.{kept}
+use Rattle.encoding.proofs.results.of_done.Statement.{statement}
+use Rattle.encoding.proofs.results.of_done.Tie as tie
+
+cast-signed : tie.Need-cast-signed
+cast-signed c = search needs
+
+signed-requires : tie.Need-signed-requires
+signed-requires c κs = search needs
+
+signed-requires-2 : tie.Need-signed-requires-2
+signed-requires-2 c κs = search needs
+
+row-requires : tie.Need-row-requires
+row-requires c κs = search needs
+
+returns : tie.Need-returns
+returns c =
+    let steps = kept (search sfits-of) (c .before .before .signed .ensures) in
+    let clearance = kept (search sfits-of) (c .before .signed2 .ensures) in
+    rw (c .row .ensures, steps, clearance)
+
+pub of-done-spec : {M : Type 1} → statement M
+of-done-spec =
+    tie.close (tie.spec cast-signed signed-requires signed-requires-2 row-requires returns)

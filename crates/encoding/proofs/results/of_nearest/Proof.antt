@@ -1,0 +1,46 @@
+-- `encoding::results::of_nearest` puts the seven numbers together.
+use borrow.Author.Needs.{needs, sfits-of}
+use mathlib.Core.Path.{refl}
+use mathlib.Core.List.{[], _∷_}
+use Rattle.encoding.proofs.Signed.{kept}
+use Rattle.encoding.proofs.results.of_nearest.Statement.{statement}
+use Rattle.encoding.proofs.results.of_nearest.Tie as tie
+
+kind-of-requires : tie.Need-kind-of-requires
+kind-of-requires c κs = search needs
+
+number-of-requires : tie.Need-number-of-requires
+number-of-requires c κs = search needs
+
+signed-requires : tie.Need-signed-requires
+signed-requires c κs = search needs
+
+signed-requires-2 : tie.Need-signed-requires-2
+signed-requires-2 c κs = search needs
+
+signed-requires-3 : tie.Need-signed-requires-3
+signed-requires-3 c κs = search needs
+
+returns : tie.Need-returns
+returns c =
+    let start = c .before .before .before .before .before .before in
+    let a = start .args .a in
+    let kind = kept (search sfits-of) (c .before .before .before .before .before .kind-of .ensures) in
+    let number = kept (search sfits-of) (c .before .before .before .before .number-of .ensures) in
+    let upper = kept (search sfits-of) (c .before .before .before .signed .ensures) in
+    let lower = kept (search sfits-of) (c .before .before .signed2 .ensures) in
+    let x = kept {z = a .point .x} (search sfits-of) refl in
+    let y = kept {z = a .point .y} (search sfits-of) refl in
+    let d = kept (search sfits-of) (c .before .signed3 .ensures) in
+    λ k. kind k ∷ number k ∷ upper k ∷ lower k ∷ x k ∷ y k ∷ d k ∷ []
+
+pub of-nearest-spec : {M : Type 1} → statement M
+of-nearest-spec =
+    tie.close
+    (tie.spec
+    kind-of-requires
+    number-of-requires
+    signed-requires
+    signed-requires-2
+    signed-requires-3
+    returns)

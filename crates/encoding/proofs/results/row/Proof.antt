@@ -1,0 +1,87 @@
+-- `encoding::results::row` puts the numbers of the worst so far between the others.
+use borrow.Author.Needs.{needs, sfits-of}
+use mathlib.Core.Path.{refl, ap, _≡_, _∙_}
+use mathlib.Core.List.{List, [], _∷_, _++_}
+use Prim.Native.Nat.{ℕ}
+use lib.IntN.{ℤ, pos}
+use lib.ListN.{getD}
+use Rattle.hausdorff.specs.declared.WorstSoFar.{WorstSoFar}
+use Rattle.hausdorff.specs.declared.WorstSoFar.the-variants.{None, Worst}
+use Rattle.encoding.specs.Results.{ofWorst}
+use Rattle.encoding.proofs.Signed.{kept, element}
+use Rattle.encoding.proofs.results.row.Statement.{statement}
+use Rattle.encoding.proofs.results.row.Tie as tie
+
+-- the nine numbers of the worst so far, and one more
+spread : (worst : WorstSoFar) (z : ℤ) → (let at : ℕ → ℤ = λ i. getD (ofWorst worst) i (pos 0) in
+    at 0 ∷ at 1 ∷ at 2 ∷ at 3 ∷ at 4 ∷ at 5 ∷ at 6 ∷ at 7 ∷ at 8 ∷ z ∷ []) ≡ ofWorst worst ++ (z ∷ [])
+spread None z = refl
+spread (Worst w) z = refl
+
+of-worst-requires : tie.Need-of-worst-requires
+of-worst-requires c κs = search needs
+
+array-copy-out-t11 : tie.Need-array-copy-out-t11
+array-copy-out-t11 c = search needs
+
+array-copy-out-t14 : tie.Need-array-copy-out-t14
+array-copy-out-t14 c = search needs
+
+array-copy-out-t17 : tie.Need-array-copy-out-t17
+array-copy-out-t17 c = search needs
+
+array-copy-out-t20 : tie.Need-array-copy-out-t20
+array-copy-out-t20 c = search needs
+
+array-copy-out-t23 : tie.Need-array-copy-out-t23
+array-copy-out-t23 c = search needs
+
+array-copy-out-t26 : tie.Need-array-copy-out-t26
+array-copy-out-t26 c = search needs
+
+array-copy-out-t29 : tie.Need-array-copy-out-t29
+array-copy-out-t29 c = search needs
+
+array-copy-out-t32 : tie.Need-array-copy-out-t32
+array-copy-out-t32 c = search needs
+
+array-copy-out-t35 : tie.Need-array-copy-out-t35
+array-copy-out-t35 c = search needs
+
+returns : tie.Need-returns
+returns c =
+    let w = c .before .before .before .before .before .before .before .before .before .of-worst .ensures in
+    let args = c .before .before .before .before .before .before .before .before .before .before .args in
+    let kind = kept {z = args .kind} (search sfits-of) refl in
+    let steps = kept {z = args .steps} (search sfits-of) refl in
+    let support-a = kept {z = args .support-a} (search sfits-of) refl in
+    let support-b = kept {z = args .support-b} (search sfits-of) refl in
+    let clearance = kept {z = args .clearance} (search sfits-of) refl in
+    (λ k. kind k ∷ steps k ∷ support-a k ∷ support-b k
+    ∷ element w 0 (search sfits-of) k
+    ∷ element w 1 (search sfits-of) k
+    ∷ element w 2 (search sfits-of) k
+    ∷ element w 3 (search sfits-of) k
+    ∷ element w 4 (search sfits-of) k
+    ∷ element w 5 (search sfits-of) k
+    ∷ element w 6 (search sfits-of) k
+    ∷ element w 7 (search sfits-of) k
+    ∷ element w 8 (search sfits-of) k
+    ∷ clearance k ∷ [])
+    ∙ ap (λ (l : List ℤ). args .kind ∷ args .steps ∷ args .support-a ∷ args .support-b ∷ l) (spread (args .worst) (args .clearance))
+
+pub row-spec : {M : Type 1} → statement M
+row-spec =
+    tie.close
+    (tie.spec
+    of-worst-requires
+    array-copy-out-t11
+    array-copy-out-t14
+    array-copy-out-t17
+    array-copy-out-t20
+    array-copy-out-t23
+    array-copy-out-t26
+    array-copy-out-t29
+    array-copy-out-t32
+    array-copy-out-t35
+    returns)

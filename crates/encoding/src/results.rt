@@ -1,0 +1,193 @@
+// The numbers of each answer, as a result list holds them. `specs/Results.antt` sets them out, place by place.
+use hausdorff::CornerGap;
+use hausdorff::Done;
+use hausdorff::Side;
+use hausdorff::Spent;
+use hausdorff::WorstSoFar;
+use nearest::Feature;
+use nearest::NearestPoint;
+ghost use mathlib.Core.Path.{_≡_};
+ghost use Prim.Native.Nat.{_^_, _<_};
+ghost use lib.IntN.{pos};
+ghost use Rattle.encoding.specs.Results.{kindOf, numberOf, ofNearest, sideOf, ofCorner, ofWorst, row, ofDone, ofSpent};
+ghost use Rattle.hausdorff.specs.Sizes.{FeatureFits, NearestFits, CornerFits, WorstFits, DoneFits, SpentFits};
+
+// How many numbers there are of a nearest point, of a corner with its gap, and of a comparison.
+pub const NEAREST_LENGTH: usize = 7;
+
+const CORNER_LENGTH: usize = 9;
+
+pub const COMPARE_LENGTH: usize = 14;
+
+// The kinds of a comparison.
+const DONE: i64 = 0;
+
+const SPENT: i64 = 1;
+
+// Stands where a place does not apply: 0 could be taken for a figure.
+const ABSENT: i64 = -1;
+
+// A number as an i64.
+fn signed(n: u64) -> i64
+    requires { ⌜ n < 2 ^ 63 ⌝ }
+    ensures { λ r. ⌜ r ≡ pos n ⌝ }
+{
+    n as i64
+}
+
+// The kind of a feature.
+fn kind_of(feature: Feature) -> i64
+    ensures { λ r. ⌜ r ≡ kindOf feature ⌝ }
+{
+    match feature {
+        Feature::Within => 0,
+        Feature::Corner(_) => 1,
+        Feature::Edge(_) => 2,
+    }
+}
+
+// The number of a feature that has one.
+fn number_of(feature: Feature) -> i64
+    requires { ⌜ FeatureFits feature ⌝ }
+    ensures { λ r. ⌜ r ≡ numberOf feature ⌝ }
+{
+    match feature {
+        Feature::Within => ABSENT,
+        Feature::Corner(i) => signed(i as u64),
+        Feature::Edge(i) => signed(i as u64),
+    }
+}
+
+// The numbers of a nearest point.
+pub fn of_nearest(a: NearestPoint) -> [i64; NEAREST_LENGTH]
+    requires { ⌜ NearestFits a ⌝ }
+    ensures { λ r. ⌜ r ≡ ofNearest a ⌝ }
+{
+    let feature = a.feature;
+    [
+        kind_of(feature),
+        number_of(feature),
+        signed(a.gap.upper),
+        signed(a.gap.lower),
+        a.point.x,
+        a.point.y,
+        signed(a.point.lower),
+    ]
+}
+
+// The side of a corner.
+fn side_of(side: Side) -> i64
+    ensures { λ r. ⌜ r ≡ sideOf side ⌝ }
+{
+    match side {
+        Side::A => 1,
+        Side::B => 2,
+    }
+}
+
+// The numbers of a corner with its gap.
+fn of_corner(w: CornerGap) -> [i64; CORNER_LENGTH]
+    requires { ⌜ CornerFits w ⌝ }
+    ensures { λ r. ⌜ r ≡ ofCorner w ⌝ }
+{
+    let side = w.side;
+    let feature = w.feature;
+    let gap = w.gap;
+    let point = w.point;
+    let n = of_nearest(NearestPoint {
+        feature,
+        gap,
+        point,
+    });
+    [
+        side_of(side),
+        signed(w.corner as u64),
+        n[0],
+        n[1],
+        n[2],
+        n[3],
+        n[4],
+        n[5],
+        n[6],
+    ]
+}
+
+// The numbers of the worst so far. Where there is none yet its side is 0.
+fn of_worst(worst: WorstSoFar) -> [i64; CORNER_LENGTH]
+    requires { ⌜ WorstFits worst ⌝ }
+    ensures { λ r. ⌜ r ≡ ofWorst worst ⌝ }
+{
+    match worst {
+        WorstSoFar::None => {
+            let mut none = [ABSENT; CORNER_LENGTH];
+            none[0] = 0;
+            none
+        }
+        WorstSoFar::Worst(w) => of_corner(w),
+    }
+}
+
+// The numbers of a comparison: those of the worst so far stand between the first four and the clearance.
+fn row(
+    kind: i64,
+    steps: i64,
+    support_a: i64,
+    support_b: i64,
+    worst: WorstSoFar,
+    clearance: i64,
+) -> [i64; COMPARE_LENGTH]
+    requires { ⌜ WorstFits worst ⌝ }
+    ensures { λ r. ⌜ r ≡ row kind steps «support_a» «support_b» worst clearance ⌝ }
+{
+    let w = of_worst(worst);
+    [
+        kind,
+        steps,
+        support_a,
+        support_b,
+        w[0],
+        w[1],
+        w[2],
+        w[3],
+        w[4],
+        w[5],
+        w[6],
+        w[7],
+        w[8],
+        clearance,
+    ]
+}
+
+// The numbers of a comparison that is done.
+pub fn of_done(d: Done) -> [i64; COMPARE_LENGTH]
+    requires { ⌜ DoneFits d ⌝ }
+    ensures { λ r. ⌜ r ≡ ofDone d ⌝ }
+{
+    let answer = d.answer;
+    row(
+        DONE,
+        signed(d.steps as u64),
+        ABSENT,
+        ABSENT,
+        WorstSoFar::Worst(answer),
+        signed(d.clearance),
+    )
+}
+
+// The numbers of a comparison that is spent.
+pub fn of_spent(p: Spent) -> [i64; COMPARE_LENGTH]
+    requires { ⌜ SpentFits p ⌝ }
+    ensures { λ r. ⌜ r ≡ ofSpent p ⌝ }
+{
+    let worst = p.worst;
+    let support_a = signed(p.support.a as u64);
+    let support_b = signed(p.support.b as u64);
+    row(
+        SPENT,
+        signed(p.steps as u64),
+        support_a,
+        support_b,
+        worst,
+        ABSENT,
+    )
+}
