@@ -5,23 +5,8 @@ use Rattle.hausdorff.proofs.CallLaws.{call-unread-a, call-unread-b, call-asks, 
 use Rattle.calls.proofs.compare.Statement.{statement}
 use Rattle.calls.proofs.compare.Tie as tie
 
-read-requires : tie.Need-read-requires
-read-requires c κs = search needs
-
-enum-known-verdict-a : tie.Need-enum-known-verdict-a
-enum-known-verdict-a c = search needs
-
 returns : tie.Need-returns
 returns c = call-promises _ _ _ (call-unread-a _ _ _ (c .before .before .before .read .ensures) (c .before .verdict-a .given .1))
-
-enum-told : tie.Need-enum-told
-enum-told c = search needs
-
-read-requires-2 : tie.Need-read-requires-2
-read-requires-2 c κs = search needs
-
-enum-known-verdict-b : tie.Need-enum-known-verdict-b
-enum-known-verdict-b c = search needs
 
 returns-2 : tie.Need-returns-2
 returns-2 c =
@@ -29,20 +14,11 @@ returns-2 c =
     (c .before .before .before .before .before .before .read .ensures) (c .before .before .before .before .enum-told .given .1)
     (c .before .before .before .read2 .ensures) (c .before .verdict-b .given .1))
 
-enum-told-2 : tie.Need-enum-told-2
-enum-told-2 c = search needs
-
 compare-requires : tie.Need-compare-requires
 compare-requires c κs = (
   call-asks _ _ (c .before .before .before .before .before .read .ensures) (c .before .before .before .enum-told .given .1),
   call-asks _ _ (c .before .before .read2 .ensures) (c .enum-told2 .given .1),
 )
-
-enum-known-spent : tie.Need-enum-known-spent
-enum-known-spent c = search needs
-
-enum-known-done : tie.Need-enum-known-done
-enum-known-done c = search needs
 
 returns-3 : tie.Need-returns-3
 returns-3 c =
@@ -64,16 +40,12 @@ pub compare-spec : {M : Type 1} → statement M
 compare-spec =
     tie.close
     (tie.spec
-    read-requires
-    enum-known-verdict-a
+    (search needs) (search needs)
     returns
-    enum-told
-    read-requires-2
-    enum-known-verdict-b
+    (search needs) (search needs) (search needs)
     returns-2
-    enum-told-2
+    (search needs)
     compare-requires
-    enum-known-spent
-    enum-known-done
+    (search needs) (search needs)
     returns-3
     returns-4)

@@ -6,23 +6,8 @@ use Rattle.nearest.proofs.CallLaws.{call-unread, call-out-of-range, call-asks, 
 use Rattle.calls.proofs.nearest_point.Statement.{statement}
 use Rattle.calls.proofs.nearest_point.Tie as tie
 
-read-outline-requires : tie.Need-read-outline-requires
-read-outline-requires c κs = search needs
-
-enum-known-verdict : tie.Need-enum-known-verdict
-enum-known-verdict c = search needs
-
 returns : tie.Need-returns
 returns c = call-unread _ _ (c .before .before .before .read-outline .ensures) (c .before .verdict .given .1)
-
-enum-told : tie.Need-enum-told
-enum-told c = search needs
-
-in-range-requires : tie.Need-in-range-requires
-in-range-requires c κs = search needs
-
-refusal-requires : tie.Need-refusal-requires
-refusal-requires c κs = search needs
 
 returns-2 : tie.Need-returns-2
 returns-2 c =
@@ -45,12 +30,9 @@ pub nearest-point-spec : {M : Type 1} → statement M
 nearest-point-spec =
     tie.close
     (tie.spec
-    read-outline-requires
-    enum-known-verdict
+    (search needs) (search needs)
     returns
-    enum-told
-    in-range-requires
-    refusal-requires
+    (search needs) (search needs) (search needs)
     returns-2
     nearest-requires
     returns-3)

@@ -6,30 +6,15 @@ use Rattle.edit.proofs.Removal.{removal-refused, removal-taken, removal-able}
 use Rattle.calls.proofs.remove_corner.Statement.{statement}
 use Rattle.calls.proofs.remove_corner.Tie as tie
 
-check-removal-requires : tie.Need-check-removal-requires
-check-removal-requires c κs = search needs
-
-enum-known-f : tie.Need-enum-known-f
-enum-known-f c = search needs
-
-refusal-requires : tie.Need-refusal-requires
-refusal-requires c κs = search needs
-
 returns : tie.Need-returns
 returns c =
     let fails = sym (c .before .before .before .before .check-removal .ensures) ∙ c .before .before .f .given .1 in
     let (answer, list) = removal-refused _ _ (c .before .before .before .before .before .args .out .now) fails in
     (ap Refused (c .refusal .ensures) ∙ sym answer, sym list)
 
-enum-told : tie.Need-enum-told
-enum-told c = search needs
-
 write-without-requires : tie.Need-write-without-requires
 write-without-requires c κs =
     removal-able _ _ _ (sym (c .before .before .before .check-removal .ensures) ∙ c .before .enum-told .given .1)
-
-same-length : tie.Need-same-length
-same-length c = search needs
 
 returns-2 : tie.Need-returns-2
 returns-2 c =
@@ -41,11 +26,9 @@ pub remove-corner-spec : {M : Type 1} → statement M
 remove-corner-spec =
     tie.close
     (tie.spec
-    check-removal-requires
-    enum-known-f
-    refusal-requires
+    (search needs) (search needs) (search needs)
     returns
-    enum-told
+    (search needs)
     write-without-requires
-    same-length
+    (search needs)
     returns-2)

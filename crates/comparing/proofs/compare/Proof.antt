@@ -20,9 +20,6 @@ make-steps-requires c κs =
     let pre = c .before .before .pre in
     (pre .0, (pre .1, ⊎-elim (λ w. omega (arith, ltb-true)) (λ w. omega arith) (c .if1 .came)))
 
-element-copy-out-report : tie.Need-element-copy-out-report
-element-copy-out-report c = omega arith
-
 report-requires : tie.Need-report-requires
 report-requires c κs =
     let run = c .before in let pre = run .before .before .before .pre in
@@ -36,4 +33,4 @@ returns c =
     (⊎-elim (λ w. rw (w .0 .taken) (w .1)) (λ w. rw (w .0 .left) (w .1)) (run .before .if1 .came)) (run .make-steps .ensures)
 
 pub compare-spec : {M : Type 1} → statement M
-compare-spec = tie.close (tie.spec add-total cast-total make-steps-requires element-copy-out-report report-requires returns)
+compare-spec = tie.close (tie.spec add-total cast-total make-steps-requires (omega arith) report-requires returns)

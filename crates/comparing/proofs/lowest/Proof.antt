@@ -22,27 +22,6 @@ loop-holds c =
     let places : length (c .args .t1 .corners) ≡ most = search length-mapped in
     (sym (length-cornersOf (c .args .t1) (omega (arith, c .pre .fits))), search-start (omega (arith, c .pre .accepted .at-least)))
 
-mul-is-lower : tie.Need-mul-is-lower Inv-loop μ-loop
-mul-is-lower c = omega arith
-
-element-copy-out-is-lower : tie.Need-element-copy-out-is-lower Inv-loop μ-loop
-element-copy-out-is-lower c = omega arith
-
-mul-is-lower-2 : tie.Need-mul-is-lower-2 Inv-loop μ-loop
-mul-is-lower-2 c = omega arith
-
-element-copy-out-is-lower-2 : tie.Need-element-copy-out-is-lower-2 Inv-loop μ-loop
-element-copy-out-is-lower-2 c = omega arith
-
-is-lower-requires : tie.Need-is-lower-requires Inv-loop μ-loop
-is-lower-requires c κs = search needs
-
-add-i : tie.Need-add-i Inv-loop μ-loop
-add-i c = omega arith
-
-loop-less : tie.Need-loop-less Inv-loop μ-loop
-loop-less c = omega arith
-
 loop-again : tie.Need-loop-again Inv-loop μ-loop
 loop-again c =
     let compared = c .before in
@@ -60,16 +39,8 @@ returns c = search-end (c .before .loop .inv .1) (omega arith)
 pub lowest-spec : {M : Type 1} → statement M
 lowest-spec =
     tie.close
-    (tie.spec
-    Inv-loop
-    μ-loop
+    (tie.spec Inv-loop μ-loop
     loop-holds
-    mul-is-lower
-    element-copy-out-is-lower
-    mul-is-lower-2
-    element-copy-out-is-lower-2
-    is-lower-requires
-    add-i
-    loop-less
+    (omega arith) (omega arith) (omega arith) (omega arith) (search needs) (omega arith) (omega arith)
     loop-again
     returns)

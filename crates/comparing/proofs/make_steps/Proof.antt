@@ -16,14 +16,8 @@ abbrev μ-loop : tie.MeasureT-loop
 lowest-requires : tie.Need-lowest-requires Inv-loop μ-loop
 lowest-requires c κs = c .pre .0
 
-begin-requires : tie.Need-begin-requires Inv-loop μ-loop
-begin-requires c κs = tt
-
 lowest-requires-2 : tie.Need-lowest-requires-2 Inv-loop μ-loop
 lowest-requires-2 c κs = c .before .before .pre .1 .0
-
-begin-requires-2 : tie.Need-begin-requires-2 Inv-loop μ-loop
-begin-requires-2 c κs = tt
 
 loop-holds : tie.Need-loop-holds Inv-loop μ-loop
 loop-holds c =
@@ -31,12 +25,6 @@ loop-holds c =
     rw (c .before .before .begin .ensures, c .begin2 .ensures)
     (run-begins (start .pre .0) (start .pre .1 .0) (search length-mapped) (search length-mapped) (start .pre .1 .1)
     (c .before .before .before .lowest .ensures) (c .before .lowest2 .ensures))
-
-previous-requires : tie.Need-previous-requires Inv-loop μ-loop
-previous-requires c κs = omega arith
-
-next-requires : tie.Need-next-requires Inv-loop μ-loop
-next-requires c κs = omega arith
 
 previous-requires-2 : tie.Need-previous-requires-2 Inv-loop μ-loop
 previous-requires-2 c κs = omega arith
@@ -47,24 +35,6 @@ element-copy-out-t29 c = omega (arith, before-below (c .previous2 .ensures) (pre
 mul-t26 : tie.Need-mul-t26 Inv-loop μ-loop
 mul-t26 c = omega (arith, element-copy-out-t29 c)
 
-mul-t30 : tie.Need-mul-t30 Inv-loop μ-loop
-mul-t30 c = omega arith
-
-element-copy-out-t33 : tie.Need-element-copy-out-t33 Inv-loop μ-loop
-element-copy-out-t33 c = omega arith
-
-mul-t34 : tie.Need-mul-t34 Inv-loop μ-loop
-mul-t34 c = omega arith
-
-element-copy-out-t37 : tie.Need-element-copy-out-t37 Inv-loop μ-loop
-element-copy-out-t37 c = omega arith
-
-mul-t38 : tie.Need-mul-t38 Inv-loop μ-loop
-mul-t38 c = omega arith
-
-element-copy-out-t41 : tie.Need-element-copy-out-t41 Inv-loop μ-loop
-element-copy-out-t41 c = omega arith
-
 next-requires-2 : tie.Need-next-requires-2 Inv-loop μ-loop
 next-requires-2 c κs = omega arith
 
@@ -74,12 +44,6 @@ element-copy-out-t46 c = omega (arith, after-below (c .next2 .ensures) (next-req
 mul-t43 : tie.Need-mul-t43 Inv-loop μ-loop
 mul-t43 c = omega (arith, element-copy-out-t46 c)
 
-previous-requires-3 : tie.Need-previous-requires-3 Inv-loop μ-loop
-previous-requires-3 c κs = omega arith
-
-next-requires-3 : tie.Need-next-requires-3 Inv-loop μ-loop
-next-requires-3 c κs = omega arith
-
 previous-requires-4 : tie.Need-previous-requires-4 Inv-loop μ-loop
 previous-requires-4 c κs = omega arith
 
@@ -88,24 +52,6 @@ element-copy-out-t46-2 c = omega (arith, before-below (c .previous4 .ensures) (p
 
 mul-t26-2 : tie.Need-mul-t26-2 Inv-loop μ-loop
 mul-t26-2 c = omega (arith, element-copy-out-t46-2 c)
-
-mul-t42 : tie.Need-mul-t42 Inv-loop μ-loop
-mul-t42 c = omega arith
-
-element-copy-out-t41-2 : tie.Need-element-copy-out-t41-2 Inv-loop μ-loop
-element-copy-out-t41-2 c = omega arith
-
-mul-t38-2 : tie.Need-mul-t38-2 Inv-loop μ-loop
-mul-t38-2 c = omega arith
-
-element-copy-out-t37-2 : tie.Need-element-copy-out-t37-2 Inv-loop μ-loop
-element-copy-out-t37-2 c = omega arith
-
-mul-t34-2 : tie.Need-mul-t34-2 Inv-loop μ-loop
-mul-t34-2 c = omega arith
-
-element-copy-out-t33-2 : tie.Need-element-copy-out-t33-2 Inv-loop μ-loop
-element-copy-out-t33-2 c = omega arith
 
 next-requires-4 : tie.Need-next-requires-4 Inv-loop μ-loop
 next-requires-4 c κs = omega arith
@@ -154,39 +100,25 @@ returns c = run-ends (c .before .loop .inv) (omega arith)
 pub make-steps-spec : {M : Type 1} → statement M
 make-steps-spec =
     tie.close
-    (tie.spec
-    Inv-loop
-    μ-loop
+    (tie.spec Inv-loop μ-loop
     lowest-requires
-    begin-requires
+    (λ _ _. tt)
     lowest-requires-2
-    begin-requires-2
+    (λ _ _. tt)
     loop-holds
-    previous-requires
-    next-requires
+    (omega arith) (omega arith)
     previous-requires-2
     mul-t26
     element-copy-out-t29
-    mul-t30
-    element-copy-out-t33
-    mul-t34
-    element-copy-out-t37
-    mul-t38
-    element-copy-out-t41
+    (omega arith) (omega arith) (omega arith) (omega arith) (omega arith) (omega arith)
     next-requires-2
     mul-t43
     element-copy-out-t46
-    previous-requires-3
-    next-requires-3
+    (omega arith) (omega arith)
     previous-requires-4
     mul-t26-2
     element-copy-out-t46-2
-    mul-t42
-    element-copy-out-t41-2
-    mul-t38-2
-    element-copy-out-t37-2
-    mul-t34-2
-    element-copy-out-t33-2
+    (omega arith) (omega arith) (omega arith) (omega arith) (omega arith) (omega arith)
     next-requires-4
     mul-t43-2
     element-copy-out-t29-2

@@ -48,20 +48,8 @@ module _ (s : List ℤ) (k room : ℕ) where
       nothing more same =
           rw (taken, lt-leb n k known, ne-eqb n fewest more, numbers-without k (corners s) known, eq-eqb room (2 * (n - 1)) same)
 
-check-requires : tie.Need-check-requires
-check-requires c κs = search needs
-
-enum-known-f : tie.Need-enum-known-f
-enum-known-f c = search needs
-
 returns : tie.Need-returns
 returns c = sym (unread _ _ _ (sym (c .before .before .before .check .ensures) ∙ c .before .f .given .1))
-
-enum-told : tie.Need-enum-told
-enum-told c = search needs
-
-count-requires : tie.Need-count-requires
-count-requires c κs = search needs
 
 returns-2 : tie.Need-returns-2
 returns-2 c =
@@ -72,9 +60,6 @@ returns-3 : tie.Need-returns-3
 returns-3 c =
     let taken = sym (c .before .before .before .before .before .check .ensures) ∙ c .before .before .before .enum-told .given .1 in
     sym (just-three _ _ _ taken (omega arith) (omega arith))
-
-sub-if3 : tie.Need-sub-if3
-sub-if3 c = search needs
 
 mul-if3 : tie.Need-mul-if3
 mul-if3 c = omega (arith, corners-fit (c .before .before .before .before .before .before .args .s .now))
@@ -95,14 +80,12 @@ pub check-removal-spec : {M : Type 1} → statement M
 check-removal-spec =
     tie.close
     (tie.spec
-    check-requires
-    enum-known-f
+    (search needs) (search needs)
     returns
-    enum-told
-    count-requires
+    (search needs) (search needs)
     returns-2
     returns-3
-    sub-if3
+    (search needs)
     mul-if3
     returns-4
     returns-5)

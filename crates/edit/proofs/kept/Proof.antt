@@ -6,9 +6,6 @@ use Rattle.edit.proofs.Without.{kept-before, kept-after}
 use Rattle.edit.proofs.kept.Statement.{statement}
 use Rattle.edit.proofs.kept.Tie as tie
 
-add-result : tie.Need-add-result
-add-result c = search needs
-
 returns : tie.Need-returns
 returns c = sym (kept-before (c .before .args .k) (c .before .args .i) (c .if1 .taken))
 
@@ -16,4 +13,4 @@ returns-2 : tie.Need-returns-2
 returns-2 c = add-one (c .before .args .i) ∙ sym (kept-after (c .before .args .k) (c .before .args .i) (c .if1 .left))
 
 pub kept-spec : {M : Type 1} → statement M
-kept-spec = tie.close (tie.spec add-result returns returns-2)
+kept-spec = tie.close (tie.spec (search needs) returns returns-2)

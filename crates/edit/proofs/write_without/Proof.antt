@@ -38,12 +38,6 @@ Inv-loop s k out₀ rest i₀ out i = (i ≤ rest) × (out ≡ copied out₀ (re
 abbrev μ-loop : tie.MeasureT-loop
 μ-loop s k out₀ rest i₀ out i = rest - i
 
-count-requires : tie.Need-count-requires Inv-loop μ-loop
-count-requires c κs = search needs
-
-sub-rest : tie.Need-sub-rest Inv-loop μ-loop
-sub-rest c = omega arith
-
 loop-holds : tie.Need-loop-holds Inv-loop μ-loop
 loop-holds c = (omega arith, refl)
 
@@ -58,12 +52,6 @@ put-corner-requires c κs =
     let able = c .before .before .before .before .before .before .pre in
     omega
     (arith, room able (c .before .before .before .before .loop .i) (omega arith) (c .before .before .before .before .loop .inv .1), count able)
-
-add-i : tie.Need-add-i Inv-loop μ-loop
-add-i c = omega arith
-
-loop-less : tie.Need-loop-less Inv-loop μ-loop
-loop-less c = omega arith
 
 loop-again : tie.Need-loop-again Inv-loop μ-loop
 loop-again c =
@@ -87,17 +75,13 @@ returns c =
 pub write-without-spec : {M : Type 1} → statement M
 write-without-spec =
     tie.close
-    (tie.spec
-    Inv-loop
-    μ-loop
-    count-requires
-    sub-rest
+    (tie.spec Inv-loop μ-loop
+    (search needs) (omega arith)
     loop-holds
     kept-requires
     corner-requires
     put-corner-requires
-    add-i
-    loop-less
+    (omega arith) (omega arith)
     loop-again
     same-length
     returns)

@@ -6,21 +6,6 @@ use Rattle.fit_lines.proofs.LineLaws.{by-case}
 use Rattle.fit_lines.proofs.comparison.Statement.{statement}
 use Rattle.fit_lines.proofs.comparison.Tie as tie
 
-enum-known-comparison : tie.Need-enum-known-comparison
-enum-known-comparison c = search needs
-
-refusal-requires : tie.Need-refusal-requires
-refusal-requires c κs = search needs
-
-enum-told : tie.Need-enum-told
-enum-told c = search needs
-
-enum-known-comparison-2 : tie.Need-enum-known-comparison-2
-enum-known-comparison-2 c = search needs
-
-done-requires : tie.Need-done-requires
-done-requires c κs = search needs
-
 returns : tie.Need-returns
 returns c = by-case comparisonText _ (c .before .before .comparison .given .1) (c .refusal .ensures)
 
@@ -34,11 +19,7 @@ pub comparison-spec : {M : Type 1} → statement M
 comparison-spec =
     tie.close
     (tie.spec
-    enum-known-comparison
-    refusal-requires
-    enum-told
-    enum-known-comparison-2
-    done-requires
+    (search needs) (search needs) (search needs) (search needs) (search needs)
     returns
     returns-2
     returns-3)

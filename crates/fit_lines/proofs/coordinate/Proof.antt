@@ -9,24 +9,6 @@ use Rattle.fit_lines.proofs.LineLaws.{by-case}
 use Rattle.fit_lines.proofs.coordinate.Statement.{statement}
 use Rattle.fit_lines.proofs.coordinate.Tie as tie
 
-slice-aggregate-bytes : tie.Need-slice-aggregate-bytes
-slice-aggregate-bytes c = search needs
-
-bytes-requires : tie.Need-bytes-requires
-bytes-requires c κs = search needs
-
-signed-requires : tie.Need-signed-requires
-signed-requires c κs = search needs
-
-slice-aggregate-bytes-2 : tie.Need-slice-aggregate-bytes-2
-slice-aggregate-bytes-2 c = search needs
-
-bytes-requires-2 : tie.Need-bytes-requires-2
-bytes-requires-2 c κs = search needs
-
-natural-requires : tie.Need-natural-requires
-natural-requires c κs = search needs
-
 returns : tie.Need-returns
 unfolding coordinateText
 returns c =
@@ -40,10 +22,5 @@ pub coordinate-spec : {M : Type 1} → statement M
 coordinate-spec =
     tie.close
     (tie.spec
-    slice-aggregate-bytes
-    bytes-requires
-    signed-requires
-    slice-aggregate-bytes-2
-    bytes-requires-2
-    natural-requires
+    (search needs) (search needs) (search needs) (search needs) (search needs) (search needs)
     returns)

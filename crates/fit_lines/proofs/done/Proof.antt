@@ -5,30 +5,6 @@ use Rattle.fit_lines.specs.Lines.{doneText}
 use Rattle.fit_lines.proofs.done.Statement.{statement}
 use Rattle.fit_lines.proofs.done.Tie as tie
 
-gap-requires : tie.Need-gap-requires
-gap-requires c κs = search needs
-
-slice-aggregate-number-line : tie.Need-slice-aggregate-number-line
-slice-aggregate-number-line c = search needs
-
-number-line-requires : tie.Need-number-line-requires
-number-line-requires c κs = search needs
-
-from-requires : tie.Need-from-requires
-from-requires c κs = search needs
-
-to-requires : tie.Need-to-requires
-to-requires c κs = search needs
-
-slice-aggregate-number-line-2 : tie.Need-slice-aggregate-number-line-2
-slice-aggregate-number-line-2 c = search needs
-
-cast-number-line : tie.Need-cast-number-line
-cast-number-line c = search needs
-
-number-line-requires-2 : tie.Need-number-line-requires-2
-number-line-requires-2 c κs = search needs
-
 returns : tie.Need-returns
 unfolding doneText
 returns c =
@@ -42,12 +18,6 @@ pub done-spec : {M : Type 1} → statement M
 done-spec =
     tie.close
     (tie.spec
-    gap-requires
-    slice-aggregate-number-line
-    number-line-requires
-    from-requires
-    to-requires
-    slice-aggregate-number-line-2
-    cast-number-line
-    number-line-requires-2
+    (search needs) (search needs) (search needs) (search needs) (search needs) (search needs) (search needs)
+    (search needs)
     returns)

@@ -6,39 +6,6 @@ use Rattle.fit_lines.proofs.LineLaws.{by-case}
 use Rattle.fit_lines.proofs.feature.Statement.{statement}
 use Rattle.fit_lines.proofs.feature.Tie as tie
 
-enum-told : tie.Need-enum-told
-enum-told c = search needs
-
-slice-aggregate-bytes : tie.Need-slice-aggregate-bytes
-slice-aggregate-bytes c = search needs
-
-bytes-requires : tie.Need-bytes-requires
-bytes-requires c κs = search needs
-
-enum-known-feature : tie.Need-enum-known-feature
-enum-known-feature c = search needs
-
-slice-aggregate-bytes-2 : tie.Need-slice-aggregate-bytes-2
-slice-aggregate-bytes-2 c = search needs
-
-bytes-requires-2 : tie.Need-bytes-requires-2
-bytes-requires-2 c κs = search needs
-
-natural-requires : tie.Need-natural-requires
-natural-requires c κs = search needs
-
-enum-known-feature-2 : tie.Need-enum-known-feature-2
-enum-known-feature-2 c = search needs
-
-slice-aggregate-bytes-3 : tie.Need-slice-aggregate-bytes-3
-slice-aggregate-bytes-3 c = search needs
-
-bytes-requires-3 : tie.Need-bytes-requires-3
-bytes-requires-3 c κs = search needs
-
-natural-requires-2 : tie.Need-natural-requires-2
-natural-requires-2 c κs = search needs
-
 returns : tie.Need-returns
 returns c = by-case featureText _ (c .before .before .enum-told .given .1) (c .bytes .ensures)
 
@@ -54,17 +21,8 @@ pub feature-spec : {M : Type 1} → statement M
 feature-spec =
     tie.close
     (tie.spec
-    enum-told
-    slice-aggregate-bytes
-    bytes-requires
-    enum-known-feature
-    slice-aggregate-bytes-2
-    bytes-requires-2
-    natural-requires
-    enum-known-feature-2
-    slice-aggregate-bytes-3
-    bytes-requires-3
-    natural-requires-2
+    (search needs) (search needs) (search needs) (search needs) (search needs) (search needs) (search needs)
+    (search needs) (search needs) (search needs) (search needs)
     returns
     returns-2
     returns-3)

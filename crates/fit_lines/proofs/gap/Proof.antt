@@ -5,30 +5,6 @@ use Rattle.fit_lines.specs.Lines.{gapText}
 use Rattle.fit_lines.proofs.gap.Statement.{statement}
 use Rattle.fit_lines.proofs.gap.Tie as tie
 
-slice-aggregate-bytes : tie.Need-slice-aggregate-bytes
-slice-aggregate-bytes c = search needs
-
-bytes-requires : tie.Need-bytes-requires
-bytes-requires c κs = search needs
-
-natural-requires : tie.Need-natural-requires
-natural-requires c κs = search needs
-
-slice-aggregate-bytes-2 : tie.Need-slice-aggregate-bytes-2
-slice-aggregate-bytes-2 c = search needs
-
-bytes-requires-2 : tie.Need-bytes-requires-2
-bytes-requires-2 c κs = search needs
-
-natural-requires-2 : tie.Need-natural-requires-2
-natural-requires-2 c κs = search needs
-
-slice-aggregate-bytes-3 : tie.Need-slice-aggregate-bytes-3
-slice-aggregate-bytes-3 c = search needs
-
-bytes-requires-3 : tie.Need-bytes-requires-3
-bytes-requires-3 c κs = search needs
-
 returns : tie.Need-returns
 unfolding gapText
 returns c =
@@ -42,12 +18,6 @@ pub gap-spec : {M : Type 1} → statement M
 gap-spec =
     tie.close
     (tie.spec
-    slice-aggregate-bytes
-    bytes-requires
-    natural-requires
-    slice-aggregate-bytes-2
-    bytes-requires-2
-    natural-requires-2
-    slice-aggregate-bytes-3
-    bytes-requires-3
+    (search needs) (search needs) (search needs) (search needs) (search needs) (search needs) (search needs)
+    (search needs)
     returns)

@@ -5,18 +5,6 @@ use Rattle.fit_lines.specs.Lines.{numberLine}
 use Rattle.fit_lines.proofs.number_line.Statement.{statement}
 use Rattle.fit_lines.proofs.number_line.Tie as tie
 
-bytes-requires : tie.Need-bytes-requires
-bytes-requires c κs = search needs
-
-natural-requires : tie.Need-natural-requires
-natural-requires c κs = search needs
-
-slice-aggregate-bytes : tie.Need-slice-aggregate-bytes
-slice-aggregate-bytes c = search needs
-
-bytes-requires-2 : tie.Need-bytes-requires-2
-bytes-requires-2 c κs = search needs
-
 returns : tie.Need-returns
 unfolding numberLine
 returns c =
@@ -25,6 +13,4 @@ returns c =
     joined _ _ _ number (c .bytes2 .ensures)
 
 pub number-line-spec : {M : Type 1} → statement M
-number-line-spec =
-    tie.close
-    (tie.spec bytes-requires natural-requires slice-aggregate-bytes bytes-requires-2 returns)
+number-line-spec = tie.close (tie.spec (search needs) (search needs) (search needs) (search needs) returns)

@@ -6,42 +6,6 @@ use Rattle.fit_lines.proofs.LineLaws.{by-case}
 use Rattle.fit_lines.proofs.place.Statement.{statement}
 use Rattle.fit_lines.proofs.place.Tie as tie
 
-enum-told : tie.Need-enum-told
-enum-told c = search needs
-
-enum-known-place : tie.Need-enum-known-place
-enum-known-place c = search needs
-
-slice-aggregate-bytes : tie.Need-slice-aggregate-bytes
-slice-aggregate-bytes c = search needs
-
-bytes-requires : tie.Need-bytes-requires
-bytes-requires c κs = search needs
-
-natural-requires : tie.Need-natural-requires
-natural-requires c κs = search needs
-
-enum-known-place-2 : tie.Need-enum-known-place-2
-enum-known-place-2 c = search needs
-
-slice-aggregate-bytes-2 : tie.Need-slice-aggregate-bytes-2
-slice-aggregate-bytes-2 c = search needs
-
-bytes-requires-2 : tie.Need-bytes-requires-2
-bytes-requires-2 c κs = search needs
-
-natural-requires-2 : tie.Need-natural-requires-2
-natural-requires-2 c κs = search needs
-
-slice-aggregate-bytes-3 : tie.Need-slice-aggregate-bytes-3
-slice-aggregate-bytes-3 c = search needs
-
-bytes-requires-3 : tie.Need-bytes-requires-3
-bytes-requires-3 c κs = search needs
-
-natural-requires-3 : tie.Need-natural-requires-3
-natural-requires-3 c κs = search needs
-
 returns : tie.Need-returns
 returns c = by-case placeText _ (c .enum-told .given .1) (appended-nil _)
 
@@ -59,18 +23,8 @@ pub place-spec : {M : Type 1} → statement M
 place-spec =
     tie.close
     (tie.spec
-    enum-told
-    enum-known-place
-    slice-aggregate-bytes
-    bytes-requires
-    natural-requires
-    enum-known-place-2
-    slice-aggregate-bytes-2
-    bytes-requires-2
-    natural-requires-2
-    slice-aggregate-bytes-3
-    bytes-requires-3
-    natural-requires-3
+    (search needs) (search needs) (search needs) (search needs) (search needs) (search needs) (search needs)
+    (search needs) (search needs) (search needs) (search needs) (search needs)
     returns
     returns-2
     returns-3)

@@ -5,24 +5,6 @@ use Rattle.fit_lines.proofs.LineLaws.{by-case}
 use Rattle.fit_lines.proofs.side.Statement.{statement}
 use Rattle.fit_lines.proofs.side.Tie as tie
 
-enum-told : tie.Need-enum-told
-enum-told c = search needs
-
-slice-aggregate-bytes : tie.Need-slice-aggregate-bytes
-slice-aggregate-bytes c = search needs
-
-bytes-requires : tie.Need-bytes-requires
-bytes-requires c κs = search needs
-
-enum-told-2 : tie.Need-enum-told-2
-enum-told-2 c = search needs
-
-slice-aggregate-bytes-2 : tie.Need-slice-aggregate-bytes-2
-slice-aggregate-bytes-2 c = search needs
-
-bytes-requires-2 : tie.Need-bytes-requires-2
-bytes-requires-2 c κs = search needs
-
 returns : tie.Need-returns
 returns c = by-case sideText _ (c .before .before .enum-told .given .1) (c .bytes .ensures)
 
@@ -33,11 +15,6 @@ pub side-spec : {M : Type 1} → statement M
 side-spec =
     tie.close
     (tie.spec
-    enum-told
-    slice-aggregate-bytes
-    bytes-requires
-    enum-told-2
-    slice-aggregate-bytes-2
-    bytes-requires-2
+    (search needs) (search needs) (search needs) (search needs) (search needs) (search needs)
     returns
     returns-2)

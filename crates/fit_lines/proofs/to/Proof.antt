@@ -11,33 +11,6 @@ use Rattle.fit_lines.proofs.LineLaws.{by-case}
 use Rattle.fit_lines.proofs.to.Statement.{statement}
 use Rattle.fit_lines.proofs.to.Tie as tie
 
-slice-aggregate-bytes : tie.Need-slice-aggregate-bytes
-slice-aggregate-bytes c = search needs
-
-bytes-requires : tie.Need-bytes-requires
-bytes-requires c κs = search needs
-
-feature-requires : tie.Need-feature-requires
-feature-requires c κs = search needs
-
-slice-aggregate-bytes-2 : tie.Need-slice-aggregate-bytes-2
-slice-aggregate-bytes-2 c = search needs
-
-bytes-requires-2 : tie.Need-bytes-requires-2
-bytes-requires-2 c κs = search needs
-
-coordinate-requires : tie.Need-coordinate-requires
-coordinate-requires c κs = search needs
-
-coordinate-requires-2 : tie.Need-coordinate-requires-2
-coordinate-requires-2 c κs = search needs
-
-slice-aggregate-bytes-3 : tie.Need-slice-aggregate-bytes-3
-slice-aggregate-bytes-3 c = search needs
-
-bytes-requires-3 : tie.Need-bytes-requires-3
-bytes-requires-3 c κs = search needs
-
 returns : tie.Need-returns
 unfolding toText
 returns c =
@@ -59,13 +32,6 @@ pub to-spec : {M : Type 1} → statement M
 to-spec =
     tie.close
     (tie.spec
-    slice-aggregate-bytes
-    bytes-requires
-    feature-requires
-    slice-aggregate-bytes-2
-    bytes-requires-2
-    coordinate-requires
-    coordinate-requires-2
-    slice-aggregate-bytes-3
-    bytes-requires-3
+    (search needs) (search needs) (search needs) (search needs) (search needs) (search needs) (search needs)
+    (search needs) (search needs)
     returns)

@@ -36,31 +36,10 @@ module _ (s : List ℕ) where
       let fits : length (comparisonText c) ≤ room = rw judgement at (response-fits s) in
       (rw (judgement, is, empty) (held-appended [] (comparisonText c) fits), response-fits s)
 
-unreadable-requires : tie.Need-unreadable-requires
-unreadable-requires c κs = search needs
-
 returns : tie.Need-returns
 returns c =
     let s = c .before .before .before .args .input .now in
     unread s (c .unreadable .ensures) (too-long s (c .before .if1 .taken))
-
-read-requires : tie.Need-read-requires
-read-requires c κs = search needs
-
-enum-known-comparison : tie.Need-enum-known-comparison
-enum-known-comparison c = search needs
-
-empty-requires : tie.Need-empty-requires
-empty-requires c κs = search needs
-
-comparison-requires : tie.Need-comparison-requires
-comparison-requires c κs = search needs
-
-enum-told : tie.Need-enum-told
-enum-told c = search needs
-
-unreadable-requires-2 : tie.Need-unreadable-requires-2
-unreadable-requires-2 c κs = search needs
 
 returns-2 : tie.Need-returns-2
 returns-2 c =
@@ -79,13 +58,8 @@ pub respond-spec : {M : Type 1} → statement M
 respond-spec =
     tie.close
     (tie.spec
-    unreadable-requires
+    (search needs)
     returns
-    read-requires
-    enum-known-comparison
-    empty-requires
-    comparison-requires
-    enum-told
-    unreadable-requires-2
+    (search needs) (search needs) (search needs) (search needs) (search needs) (search needs)
     returns-2
     returns-3)

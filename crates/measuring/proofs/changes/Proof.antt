@@ -5,20 +5,8 @@ use Rattle.measuring.proofs.GapSizes.{near-bounded}
 use Rattle.measuring.proofs.changes.Statement.{statement}
 use Rattle.measuring.proofs.changes.Tie as tie
 
-is-none-requires : tie.Need-is-none-requires
-is-none-requires c κs = search needs
-
 returns : tie.Need-returns
 returns c = rw (← c .before .is-none .ensures, c .if1 .taken)
-
-enum-told : tie.Need-enum-told
-enum-told c = search needs
-
-enum-known-old : tie.Need-enum-known-old
-enum-known-old c = search needs
-
-values-requires : tie.Need-values-requires
-values-requires c κs = search needs
 
 -- the new gap is a window's, and the old one is asked to be bounded
 is-worse-requires : tie.Need-is-worse-requires
@@ -39,11 +27,9 @@ pub changes-spec : {M : Type 1} → statement M
 changes-spec =
     tie.close
     (tie.spec
-    is-none-requires
+    (search needs)
     returns
-    enum-told
-    enum-known-old
-    values-requires
+    (search needs) (search needs) (λ c κs. search needs)
     is-worse-requires
     returns-2
     returns-3)

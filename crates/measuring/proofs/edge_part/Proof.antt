@@ -19,14 +19,8 @@ length-is : (c : tie.After-squared-length) → (let run = c .before .before .bef
     toZ w64 (ofZ w64 (c .squared-length .result)) ≡ dot run run)
 length-is c = let fits : SFits w64 (c .squared-length .result) = search sfits-of in toZ-ofZ fits ∙ c .squared-length .ensures
 
-dot-requires : tie.Need-dot-requires
-dot-requires c κs = search needs
-
 returns : tie.Need-returns
 returns c = rw (rw (along-is (c .before)) at (c .if1 .taken))
-
-squared-length-requires : tie.Need-squared-length-requires
-squared-length-requires c κs = search needs
 
 -- what the tests have shown of the foot: it is past the support corner; and then it is before the other end, or it is not
 past-start : (c : tie.After-squared-length) → (let a = c .before .before .before .args in leZ (dot (a .to) (a .run)) (pos 0) ≡ false)
@@ -46,9 +40,6 @@ returns-2 c = rw (past-start (c .before .before), before-end (c .before), c .if3
 returns-3 : tie.Need-returns-3
 returns-3 c = rw (past-start (c .before .before), before-end (c .before), c .if3 .left)
 
-end-is-nearest-requires : tie.Need-end-is-nearest-requires
-end-is-nearest-requires c κs = search needs
-
 returns-4 : tie.Need-returns-4
 returns-4 c =
     let tested = c .before .before in
@@ -61,13 +52,4 @@ returns-5 c =
 
 pub edge-part-spec : {M : Type 1} → statement M
 edge-part-spec =
-    tie.close
-    (tie.spec
-    dot-requires
-    returns
-    squared-length-requires
-    returns-2
-    returns-3
-    end-is-nearest-requires
-    returns-4
-    returns-5)
+    tie.close (tie.spec (search needs) returns (search needs) returns-2 returns-3 (search needs) returns-4 returns-5)

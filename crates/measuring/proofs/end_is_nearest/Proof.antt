@@ -25,23 +25,11 @@ past-is c =
 not-past : (c : tie.Else1) → leZ (past (c .before .before .before .before)) (pos 0) ≡ true
 not-past c = rw (leZ-not (past (c .before .before .before .before)) (pos 0), ← past-is (c .before), c .if1 .left)
 
-difference-requires : tie.Need-difference-requires
-difference-requires c κs = search needs
-
-difference-requires-2 : tie.Need-difference-requires-2
-difference-requires-2 c κs = search needs
-
-dot-requires : tie.Need-dot-requires
-dot-requires c κs = search span-difference
-
 returns : tie.Need-returns
 returns c = rw (leZ-not (past (c .before .before .before .before)) (pos 0), ← past-is (c .before), c .if1 .taken)
 
 returns-2 : tie.Need-returns-2
 returns-2 c = rw (not-past (c .before), c .if2 .taken)
-
-is-right-of-requires : tie.Need-is-right-of-requires
-is-right-of-requires c κs = search span-difference
 
 returns-3 : tie.Need-returns-3
 returns-3 c =
@@ -53,10 +41,8 @@ pub end-is-nearest-spec : {M : Type 1} → statement M
 end-is-nearest-spec =
     tie.close
     (tie.spec
-    difference-requires
-    difference-requires-2
-    dot-requires
+    (search needs) (search needs) (λ c κs. search span-difference)
     returns
     returns-2
-    is-right-of-requires
+    (λ c κs. search span-difference)
     returns-3)

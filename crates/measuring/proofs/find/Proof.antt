@@ -10,15 +10,6 @@ use Rattle.measuring.proofs.NearLaws.{rightAfter, rightBefore, partAfte
 use Rattle.measuring.proofs.find.Statement.{statement}
 use Rattle.measuring.proofs.find.Tie as tie
 
-difference-requires : tie.Need-difference-requires
-difference-requires c κs = search needs
-
-difference-requires-2 : tie.Need-difference-requires-2
-difference-requires-2 c κs = search needs
-
-difference-requires-3 : tie.Need-difference-requires-3
-difference-requires-3 c κs = search needs
-
 -- the vectors from the support corner to v and to its two neighbours are within reach
 record Spans (c : tie.After-difference3) : Type 0 where
   pub to : Span reach (c .before .before .difference .result)
@@ -51,12 +42,6 @@ edge-part-requires-2 c κs =
     let made = c .before .before .before in let are = spans made in
     let pre = made .before .before .before .pre in let range = window-range (pre .1) in
     (pre .0, (are .to, (are .after, (range .after, range .farafter))))
-
-corner-if-requires : tie.Need-corner-if-requires
-corner-if-requires c κs = search needs
-
-by-parts-requires : tie.Need-by-parts-requires
-by-parts-requires c κs = search needs
 
 -- what the calls answer
 module _ (c : tie.After-is-right-of2) where
@@ -98,13 +83,10 @@ pub find-spec : {M : Type 1} → statement M
 find-spec =
     tie.close
     (tie.spec
-    difference-requires
-    difference-requires-2
-    difference-requires-3
+    (search needs) (search needs) (search needs)
     is-right-of-requires
     is-right-of-requires-2
     edge-part-requires
     edge-part-requires-2
-    corner-if-requires
-    by-parts-requires
+    (search needs) (search needs)
     returns)

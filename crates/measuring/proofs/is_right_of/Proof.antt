@@ -12,9 +12,6 @@ use Rattle.measuring.proofs.is_right_of.Tie as tie
 side-is : (c : tie.After-side) → toZ w64 (ofZ w64 (c .side .result)) ≡ cross (c .before .args .run) (c .before .args .to)
 side-is c = let fits : SFits w64 (c .side .result) = search sfits-of in toZ-ofZ fits ∙ c .side .ensures
 
-side-requires : tie.Need-side-requires
-side-requires c κs = search needs
-
 returns : tie.Need-returns
 returns c = rw (c .if1 .taken, side-is (c .before))
 
@@ -22,4 +19,4 @@ returns-2 : tie.Need-returns-2
 returns-2 c = rw (c .if1 .left, side-is (c .before))
 
 pub is-right-of-spec : {M : Type 1} → statement M
-is-right-of-spec = tie.close (tie.spec side-requires returns returns-2)
+is-right-of-spec = tie.close (tie.spec (search needs) returns returns-2)

@@ -30,18 +30,6 @@ answer-is gap i old o is told = rw (← told, is) (go (isLess (old .gap) gap) (i
     go false true u = refl
     go false false u = refl
 
-compare-requires : tie.Need-compare-requires
-compare-requires c κs = search needs
-
-enum-told : tie.Need-enum-told
-enum-told c = search needs
-
-enum-told-2 : tie.Need-enum-told-2
-enum-told-2 c = search needs
-
-enum-told-3 : tie.Need-enum-told-3
-enum-told-3 c = search needs
-
 returns : tie.Need-returns
 returns c =
     let given = c .before .before .before .args in
@@ -59,5 +47,4 @@ returns-3 c =
 
 pub is-worse-spec : {M : Type 1} → statement M
 is-worse-spec =
-    tie.close
-    (tie.spec compare-requires enum-told enum-told-2 enum-told-3 returns returns-2 returns-3)
+    tie.close (tie.spec (search needs) (search needs) (search needs) (search needs) returns returns-2 returns-3)

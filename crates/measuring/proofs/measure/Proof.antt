@@ -6,19 +6,10 @@ use Rattle.measuring.proofs.ChangesLaws.{keeps-old, takes-new}
 use Rattle.measuring.proofs.measure.Statement.{statement}
 use Rattle.measuring.proofs.measure.Tie as tie
 
-changes-requires : tie.Need-changes-requires
-changes-requires c κs = search needs
-
 returns : tie.Need-returns
 returns c =
     let given = c .before .before .args in
     sym (keeps-old (given .side) (given .number) (given .v) (given .w) (given .f) (given .old) (not-true _ (rw (c .before .changes .ensures) at (c .if1 .taken))))
-
-values-requires : tie.Need-values-requires
-values-requires c κs = search needs
-
-named-requires : tie.Need-named-requires
-named-requires c κs = search needs
 
 returns-2 : tie.Need-returns-2
 returns-2 c =
@@ -27,4 +18,4 @@ returns-2 c =
     rw (taken, c .named .ensures, c .before .values .ensures)
 
 pub measure-spec : {M : Type 1} → statement M
-measure-spec = tie.close (tie.spec changes-requires returns values-requires named-requires returns-2)
+measure-spec = tie.close (tie.spec (λ c κs. search needs) returns (λ c κs. search needs) (search needs) returns-2)

@@ -4,26 +4,11 @@ use Rattle.measuring.proofs.WindowLaws.{window-below, window-range}
 use Rattle.measuring.proofs.values.Statement.{statement}
 use Rattle.measuring.proofs.values.Tie as tie
 
-enum-told : tie.Need-enum-told
-enum-told c = search needs
-
-within-requires : tie.Need-within-requires
-within-requires c κs = search needs
-
-enum-told-2 : tie.Need-enum-told-2
-enum-told-2 c = search needs
-
 at-corner-requires : tie.Need-at-corner-requires
 at-corner-requires c κs = let range = window-range (c .before .before .pre .1) in search needs
 
-enum-told-3 : tie.Need-enum-told-3
-enum-told-3 c = search needs
-
 on-edge-requires : tie.Need-on-edge-requires
 on-edge-requires c κs = let range = window-range (c .before .before .pre .1) in search needs
-
-enum-told-4 : tie.Need-enum-told-4
-enum-told-4 c = search needs
 
 previous-requires : tie.Need-previous-requires
 previous-requires c κs = window-below (c .before .before .pre .1)
@@ -31,17 +16,11 @@ previous-requires c κs = window-below (c .before .before .pre .1)
 on-edge-requires-2 : tie.Need-on-edge-requires-2
 on-edge-requires-2 c κs = let range = window-range (c .before .before .before .pre .1) in search needs
 
-enum-told-5 : tie.Need-enum-told-5
-enum-told-5 c = search needs
-
 next-requires : tie.Need-next-requires
 next-requires c κs = window-below (c .before .before .pre .1)
 
 at-corner-requires-2 : tie.Need-at-corner-requires-2
 at-corner-requires-2 c κs = let range = window-range (c .before .before .before .pre .1) in search needs
-
-enum-told-6 : tie.Need-enum-told-6
-enum-told-6 c = search needs
 
 previous-requires-2 : tie.Need-previous-requires-2
 previous-requires-2 c κs = window-below (c .before .before .pre .1)
@@ -71,19 +50,17 @@ pub values-spec : {M : Type 1} → statement M
 values-spec =
     tie.close
     (tie.spec
-    enum-told
-    within-requires
-    enum-told-2
+    (search needs) (search needs) (search needs)
     at-corner-requires
-    enum-told-3
+    (search needs)
     on-edge-requires
-    enum-told-4
+    (search needs)
     previous-requires
     on-edge-requires-2
-    enum-told-5
+    (search needs)
     next-requires
     at-corner-requires-2
-    enum-told-6
+    (search needs)
     previous-requires-2
     at-corner-requires-3
     returns

@@ -8,12 +8,6 @@ use Rattle.plane.specs.Range.{inRange}
 use Rattle.plane.proofs.in_range.Statement.{statement}
 use Rattle.plane.proofs.in_range.Tie as tie
 
-is-coordinate-requires : tie.Need-is-coordinate-requires
-is-coordinate-requires c κs = search needs
-
-is-coordinate-requires-2 : tie.Need-is-coordinate-requires-2
-is-coordinate-requires-2 c κs = search needs
-
 returns : tie.Need-returns
 unfolding inRange
 returns c =
@@ -29,5 +23,4 @@ returns-2 c =
     and-stop _ (rw (toZ-ofZ x-fits) at (c .before .is-coordinate .ensures)) (c .if1 .left)
 
 pub in-range-spec : {M : Type 1} → statement M
-in-range-spec =
-    tie.close (tie.spec is-coordinate-requires is-coordinate-requires-2 returns returns-2)
+in-range-spec = tie.close (tie.spec (search needs) (search needs) returns returns-2)

@@ -20,9 +20,6 @@ not-below : (z : ℤ) → ltZ z (negℤ (pos limit)) ≡ false → leZ z (pos li
 not-below (pos n) e = refl
 not-below (negsuc n) e = sym (le-leb (suc n) limit (omega (arith, ltb-false _ n e)))
 
-sub-if1 : tie.Need-sub-if1
-sub-if1 c = search needs
-
 returns : tie.Need-returns
 returns c = below (c .before .args .z) (rw (toZ-ofZ (c .before .fits .z)) at (c .if1 .taken))
 
@@ -32,4 +29,4 @@ returns-2 c =
     (not-below (c .before .args .z) (rw (toZ-ofZ (c .before .fits .z)) at (c .if1 .left)))
 
 pub is-coordinate-spec : {M : Type 1} → statement M
-is-coordinate-spec = tie.close (tie.spec sub-if1 returns returns-2)
+is-coordinate-spec = tie.close (tie.spec (search needs) returns returns-2)

@@ -9,12 +9,6 @@ use Rattle.plane.specs.Vector.{same}
 use Rattle.plane.proofs.same.Statement.{statement}
 use Rattle.plane.proofs.same.Tie as tie
 
-equal-requires : tie.Need-equal-requires
-equal-requires c κs = search needs
-
-equal-requires-2 : tie.Need-equal-requires-2
-equal-requires-2 c κs = search needs
-
 returns : tie.Need-returns
 unfolding same
 returns c =
@@ -35,4 +29,4 @@ returns-2 c =
     and-stop _ (rw (toZ-ofZ px, toZ-ofZ qx) at (c .before .equal .ensures)) (c .if1 .left)
 
 pub same-spec : {M : Type 1} → statement M
-same-spec = tie.close (tie.spec equal-requires equal-requires-2 returns returns-2)
+same-spec = tie.close (tie.spec (search needs) (search needs) returns returns-2)

@@ -5,19 +5,10 @@ use Rattle.plane.proofs.Arithmetic.{product-fits, minus-fits, cross-is}
 use Rattle.plane.proofs.side.Statement.{statement}
 use Rattle.plane.proofs.side.Tie as tie
 
-mul-result : tie.Need-mul-result
-mul-result c = search product-fits
-
-mul-result-2 : tie.Need-mul-result-2
-mul-result-2 c = search product-fits
-
-sub-result : tie.Need-sub-result
-sub-result c = search minus-fits
-
 returns : tie.Need-returns
 returns c =
     let pre = c .before .before .before .before .before .before .before .before .pre in
     stored w64 (cross-is (pre .0) (pre .1)) tt .exact
 
 pub side-spec : {M : Type 1} → statement M
-side-spec = tie.close (tie.spec mul-result mul-result-2 sub-result returns)
+side-spec = tie.close (tie.spec (λ c. search product-fits) (λ c. search product-fits) (λ c. search minus-fits) returns)

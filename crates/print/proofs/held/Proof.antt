@@ -11,11 +11,5 @@ array-share-prefix-bytes c = omega (arith, c .before .pre .fits, c .before .pre 
 slice-aggregate-text : tie.Need-slice-aggregate-text
 slice-aggregate-text c = rw length-take (omega (arith, c .before .before .pre .fits, c .before .before .pre .places))
 
-text-requires : tie.Need-text-requires
-text-requires c κs = search needs
-
-returns : tie.Need-returns
-returns c = search needs
-
 pub held-spec : {M : Type 1} → statement M
-held-spec = tie.close (tie.spec array-share-prefix-bytes slice-aggregate-text text-requires returns)
+held-spec = tie.close (tie.spec array-share-prefix-bytes slice-aggregate-text (search needs) (search needs))

@@ -7,17 +7,8 @@ use Rattle.text.proofs.OutputLaws.{appended-text, held-text}
 use Rattle.print.proofs.signed.Statement.{statement}
 use Rattle.print.proofs.signed.Tie as tie
 
-empty-requires : tie.Need-empty-requires
-empty-requires c κs = search needs
-
-signed-requires : tie.Need-signed-requires
-signed-requires c κs = search needs
-
 held-requires : tie.Need-held-requires
 held-requires c κs = rw (c .signed .ensures, c .before .empty .ensures) (appended-text (held []) _ (held-text [] (omega arith)))
 
-returns : tie.Need-returns
-returns c = search needs
-
 pub signed-spec : {M : Type 1} → statement M
-signed-spec = tie.close (tie.spec empty-requires signed-requires held-requires returns)
+signed-spec = tie.close (tie.spec (search needs) (search needs) held-requires (search needs))

@@ -31,23 +31,11 @@ loop-holds c =
     let places : length (c .args .t1 .corners) ≡ most = search length-mapped in
     (sym (length-cornersOf (c .args .t1) (omega (arith, c .pre .0 .fits))), pass-start _ _)
 
-next-requires : tie.Need-next-requires Inv-loop μ-loop
-next-requires c κs = omega arith
-
-previous-requires : tie.Need-previous-requires Inv-loop μ-loop
-previous-requires c κs = omega arith
-
 mul-before : tie.Need-mul-before Inv-loop μ-loop
 mul-before c = omega (arith, before-below (c .previous .ensures) (c .before .before .loop-test .taken))
 
 element-copy-out-before : tie.Need-element-copy-out-before Inv-loop μ-loop
 element-copy-out-before c = omega (arith, before-below (c .previous .ensures) (c .before .before .loop-test .taken))
-
-mul-p : tie.Need-mul-p Inv-loop μ-loop
-mul-p c = omega arith
-
-element-copy-out-p : tie.Need-element-copy-out-p Inv-loop μ-loop
-element-copy-out-p c = omega arith
 
 mul-q : tie.Need-mul-q Inv-loop μ-loop
 mul-q c = let read = c .before .before .before in omega (arith, after-below (read .next .ensures) (read .before .loop-test .taken))
@@ -93,12 +81,6 @@ turn-at c =
 nearest-part-requires : tie.Need-nearest-part-requires Inv-loop μ-loop
 nearest-part-requires c κs = (c .before .before .before .before .before .before .before .before .before .pre .1, turn-range (turn-at c))
 
-enum-told : tie.Need-enum-told Inv-loop μ-loop
-enum-told c = search needs
-
-enum-told-2 : tie.Need-enum-told-2 Inv-loop μ-loop
-enum-told-2 c = search needs
-
 at-corner-requires : tie.Need-at-corner-requires Inv-loop μ-loop
 at-corner-requires c κs = let (v, (_, (p, _))) = nearest-part-requires (c .before .before .before) κs in (v, p)
 
@@ -106,9 +88,6 @@ returns : tie.Need-returns Inv-loop μ-loop
 returns c =
     let part = c .before .before .before in
     c .at-corner .ensures ∙ turn-start (turn-at (part .before)) _ (part .nearest-part .ensures) (c .before .enum-told2 .given .1)
-
-enum-told-3 : tie.Need-enum-told-3 Inv-loop μ-loop
-enum-told-3 c = search needs
 
 on-edge-requires : tie.Need-on-edge-requires Inv-loop μ-loop
 on-edge-requires c κs = let (v, (_, (p, (q, _)))) = nearest-part-requires (c .before .before .before) κs in (v, (p, q))
@@ -118,9 +97,6 @@ returns-2 c =
     let part = c .before .before .before in
     c .on-edge .ensures ∙ turn-between (turn-at (part .before)) _ (part .nearest-part .ensures) (c .before .enum-told3 .given .1)
 
-enum-told-4 : tie.Need-enum-told-4 Inv-loop μ-loop
-enum-told-4 c = search needs
-
 at-corner-requires-2 : tie.Need-at-corner-requires-2 Inv-loop μ-loop
 at-corner-requires-2 c κs = let (v, (_, (_, (q, _)))) = nearest-part-requires (c .before .before .before) κs in (v, q)
 
@@ -129,20 +105,11 @@ returns-3 c =
     let part = c .before .before .before in
     c .at-corner2 .ensures ∙ turn-end (turn-at (part .before)) _ (part .nearest-part .ensures) (c .before .enum-told4 .given .1)
 
-add-i : tie.Need-add-i Inv-loop μ-loop
-add-i c = omega arith
-
-loop-less : tie.Need-loop-less Inv-loop μ-loop
-loop-less c = omega arith
-
 loop-again : tie.Need-loop-again Inv-loop μ-loop
 loop-again c =
     let part = c .before .before in
     let inv = part .before .before .before .before .before .before .before .before .before .loop .inv in
     (inv .0, turn-on (turn-at (part .before)) _ (part .nearest-part .ensures) (inv .1) (c .enum-told .given .1))
-
-within-requires : tie.Need-within-requires Inv-loop μ-loop
-within-requires c κs = search needs
 
 returns-4 : tie.Need-returns-4 Inv-loop μ-loop
 returns-4 c =
@@ -152,34 +119,28 @@ returns-4 c =
 pub nearest-spec : {M : Type 1} → statement M
 nearest-spec =
     tie.close
-    (tie.spec
-    Inv-loop
-    μ-loop
+    (tie.spec Inv-loop μ-loop
     loop-holds
-    next-requires
-    previous-requires
+    (omega arith) (omega arith)
     mul-before
     element-copy-out-before
-    mul-p
-    element-copy-out-p
+    (omega arith) (omega arith)
     mul-q
     element-copy-out-q
     next-requires-2
     mul-after
     element-copy-out-after
     nearest-part-requires
-    enum-told
-    enum-told-2
+    (search needs) (search needs)
     at-corner-requires
     returns
-    enum-told-3
+    (search needs)
     on-edge-requires
     returns-2
-    enum-told-4
+    (search needs)
     at-corner-requires-2
     returns-3
-    add-i
-    loop-less
+    (omega arith) (omega arith)
     loop-again
-    within-requires
+    (search needs)
     returns-4)

@@ -14,69 +14,27 @@ right : (c : tie.After-compare) {answer : Comparison} → c .compare .result ≡
     × (compareList (args .a .now) (args .b .now) (args .allowance) (args .result .now) ≡ listOfComparison answer (args .result .now)))
 right c is = compare-right _ _ _ _ (c .before .if1 .left) (sym (c .compare .ensures .0) ∙ is)
 
-wrong-result-length-requires : tie.Need-wrong-result-length-requires
-wrong-result-length-requires c κs = search needs
-
 returns : tie.Need-returns
 returns c =
     let (status, list) = compare-wrong _ _ _ _ (c .before .if1 .taken) in
     (c .wrong-result-length .ensures ∙ sym status, sym list)
 
-compare-requires : tie.Need-compare-requires
-compare-requires c κs = search needs
-
-enum-known-refusal : tie.Need-enum-known-refusal
-enum-known-refusal c = search needs
-
-refused-requires : tie.Need-refused-requires
-refused-requires c κs = search needs
-
-enum-known-spent : tie.Need-enum-known-spent
-enum-known-spent c = search needs
-
 of-spent-requires : tie.Need-of-spent-requires
 of-spent-requires c κs = spent-fits _ _ _ (rw (c .before .spent .given .1) at (c .before .before .before .compare .ensures .1))
 
-slice-aggregate-write : tie.Need-slice-aggregate-write
-slice-aggregate-write c = search needs
-
-write-requires : tie.Need-write-requires
-write-requires c κs = search needs
-
-answered-requires : tie.Need-answered-requires
-answered-requires c κs = search needs
-
-enum-known-done : tie.Need-enum-known-done
-enum-known-done c = search needs
-
 of-done-requires : tie.Need-of-done-requires
 of-done-requires c κs = done-fits _ _ _ (rw (c .before .done .given .1) at (c .before .before .before .compare .ensures .1))
-
-slice-aggregate-write-2 : tie.Need-slice-aggregate-write-2
-slice-aggregate-write-2 c = search needs
-
-write-requires-2 : tie.Need-write-requires-2
-write-requires-2 c κs = search needs
-
-answered-requires-2 : tie.Need-answered-requires-2
-answered-requires-2 c κs = search needs
 
 returns-2 : tie.Need-returns-2
 returns-2 c =
     let known = c .before .before in let (status, list) = right (known .before .before) (known .refusal .given .1) in
     (c .refused .ensures ∙ sym status, sym list)
 
-same-length : tie.Need-same-length
-same-length c = search needs
-
 returns-3 : tie.Need-returns-3
 returns-3 c =
     let wrote = c .before .before in let made = wrote .before .before .before in let known = made .before .before in
     let (status, list) = right (known .before .before) (known .spent .given .1) in
     (c .answered .ensures ∙ sym status, wrote .write .ensures ∙ made .of-spent .ensures ∙ sym list)
-
-same-length-2 : tie.Need-same-length-2
-same-length-2 c = search needs
 
 returns-4 : tie.Need-returns-4
 returns-4 c =
@@ -88,23 +46,15 @@ pub ravinebowl-compare-spec : {M : Type 1} → statement M
 ravinebowl-compare-spec =
     tie.close
     (tie.spec
-    wrong-result-length-requires
+    (search needs)
     returns
-    compare-requires
-    enum-known-refusal
-    refused-requires
-    enum-known-spent
+    (search needs) (search needs) (search needs) (search needs)
     of-spent-requires
-    slice-aggregate-write
-    write-requires
-    answered-requires
-    enum-known-done
+    (search needs) (search needs) (search needs) (search needs)
     of-done-requires
-    slice-aggregate-write-2
-    write-requires-2
-    answered-requires-2
+    (search needs) (search needs) (search needs)
     returns-2
-    same-length
+    (search needs)
     returns-3
-    same-length-2
+    (search needs)
     returns-4)

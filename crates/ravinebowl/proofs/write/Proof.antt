@@ -30,25 +30,10 @@ abbrev μ-loop : tie.MeasureT-loop
 loop-holds : tie.Need-loop-holds Inv-loop μ-loop
 loop-holds c = (omega arith, refl)
 
-mul-list : tie.Need-mul-list Inv-loop μ-loop
-mul-list c = search needs
-
-shared-slice-copy-out-list : tie.Need-shared-slice-copy-out-list Inv-loop μ-loop
-shared-slice-copy-out-list c = omega arith
-
-mul-t8 : tie.Need-mul-t8 Inv-loop μ-loop
-mul-t8 c = search needs
-
 slice-set-from-list : tie.Need-slice-set-from-list Inv-loop μ-loop
 slice-set-from-list c =
     let at-loop = c .before .before in
     omega (arith, room _ _ _ (at-loop .before .pre) (at-loop .loop .inv .1) (at-loop .loop .inv .0))
-
-add-i : tie.Need-add-i Inv-loop μ-loop
-add-i c = omega arith
-
-loop-less : tie.Need-loop-less Inv-loop μ-loop
-loop-less c = omega arith
 
 loop-again : tie.Need-loop-again Inv-loop μ-loop
 loop-again c =
@@ -64,16 +49,11 @@ returns c = c .before .loop .inv .1 ∙ copied-all _ _ (c .before .loop .i) (c .
 pub write-spec : {M : Type 1} → statement M
 write-spec =
     tie.close
-    (tie.spec
-    Inv-loop
-    μ-loop
+    (tie.spec Inv-loop μ-loop
     loop-holds
-    mul-list
-    shared-slice-copy-out-list
-    mul-t8
+    (search needs) (omega arith) (search needs)
     slice-set-from-list
-    add-i
-    loop-less
+    (omega arith) (omega arith)
     loop-again
     same-length
     returns)

@@ -25,23 +25,8 @@ reading-is whose s found ends reads = λ i. record {
   outline = (reads ∙ ap (λ (c : Check). ifPassed c (held (corners s)) (held [])) (sym found)) i;
 }
 
-check-requires : tie.Need-check-requires
-check-requires c κs = search needs
-
-enum-told : tie.Need-enum-told
-enum-told c = search needs
-
 hold-requires : tie.Need-hold-requires
 hold-requires c κs = accepted _ .0 (sym (c .before .before .check .ensures) ∙ c .enum-told .given .1) .1 .at-most
-
-enum-known-f : tie.Need-enum-known-f
-enum-known-f c = search needs
-
-refusal-requires : tie.Need-refusal-requires
-refusal-requires c κs = search needs
-
-slice-aggregate-hold : tie.Need-slice-aggregate-hold
-slice-aggregate-hold c = search needs
 
 hold-requires-2 : tie.Need-hold-requires-2
 unfolding corners
@@ -62,12 +47,9 @@ pub read-spec : {M : Type 1} → statement M
 read-spec =
     tie.close
     (tie.spec
-    check-requires
-    enum-told
+    (search needs) (search needs)
     hold-requires
-    enum-known-f
-    refusal-requires
-    slice-aggregate-hold
+    (search needs) (search needs) (search needs)
     hold-requires-2
     returns
     returns-2)

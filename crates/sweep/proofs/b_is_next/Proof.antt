@@ -15,12 +15,6 @@ returns c = rw (c .if1 .taken)
 returns-2 : tie.Need-returns-2
 returns-2 c = rw (ne-eqb _ 0 (c .before .if1 .left), c .if2 .taken)
 
-difference-requires : tie.Need-difference-requires
-difference-requires c κs = search needs
-
-difference-requires-2 : tie.Need-difference-requires-2
-difference-requires-2 c κs = search needs
-
 side-requires : tie.Need-side-requires
 side-requires c κs =
     let in-a = window-range (c .before .before .before .before .pre .seen-a) in
@@ -40,6 +34,4 @@ returns-3 c =
     )
 
 pub b-is-next-spec : {M : Type 1} → statement M
-b-is-next-spec =
-    tie.close
-    (tie.spec returns returns-2 difference-requires difference-requires-2 side-requires returns-3)
+b-is-next-spec = tie.close (tie.spec returns returns-2 (search needs) (search needs) side-requires returns-3)

@@ -6,18 +6,9 @@ use Rattle.plane.proofs.Tests.{inRange-true}
 use Rattle.timing.proofs.found.Statement.{statement}
 use Rattle.timing.proofs.found.Tie as tie
 
-in-range-requires : tie.Need-in-range-requires
-in-range-requires c κs = search needs
-
-returns : tie.Need-returns
-returns c = search needs
-
 nearest-requires : tie.Need-nearest-requires
 nearest-requires c κs =
     (c .before .before .pre, inRange-true _ .0 (sym (c .before .in-range .ensures) ∙ not-false _ (c .if1 .left)))
 
-returns-2 : tie.Need-returns-2
-returns-2 c = search needs
-
 pub found-spec : {M : Type 1} → statement M
-found-spec = tie.close (tie.spec in-range-requires returns nearest-requires returns-2)
+found-spec = tie.close (tie.spec (search needs) (search needs) nearest-requires (search needs))

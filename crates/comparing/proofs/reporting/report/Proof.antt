@@ -4,14 +4,8 @@ use Rattle.comparing.proofs.CompareLaws.{answer-positive}
 use Rattle.comparing.proofs.reporting.report.Statement.{statement}
 use Rattle.comparing.proofs.reporting.report.Tie as tie
 
-overall-requires : tie.Need-overall-requires
-overall-requires c κs = search needs
-
 returns : tie.Need-returns
 returns c = rw (c .if1 .taken, c .before .overall .ensures)
-
-answer-requires : tie.Need-answer-requires
-answer-requires c κs = search needs
 
 clearance-requires : tie.Need-clearance-requires
 clearance-requires c κs =
@@ -24,5 +18,4 @@ returns-2 c =
     rw (done .if1 .left, c .clearance .ensures, c .before .before .answer .ensures, done .before .overall .ensures)
 
 pub report-spec : {M : Type 1} → statement M
-report-spec =
-    tie.close (tie.spec overall-requires returns answer-requires clearance-requires returns-2)
+report-spec = tie.close (tie.spec (λ c κs. search needs) returns (search needs) clearance-requires returns-2)

@@ -28,18 +28,6 @@ answer-is w z o is told = rw (← told, is) (go (isLess (w .gap) (z .gap)) (isLe
     go false true = refl
     go false false = refl
 
-compare-requires : tie.Need-compare-requires
-compare-requires c κs = search needs
-
-enum-told : tie.Need-enum-told
-enum-told c = search needs
-
-enum-told-2 : tie.Need-enum-told-2
-enum-told-2 c = search needs
-
-enum-told-3 : tie.Need-enum-told-3
-enum-told-3 c = search needs
-
 returns : tie.Need-returns
 returns c = answer-is _ _ Less (c .before .before .compare .ensures) (c .enum-told .given .1)
 
@@ -51,5 +39,4 @@ returns-3 c = answer-is _ _ Greater (c .before .before .compare .ensures) (c .en
 
 pub worse-spec : {M : Type 1} → statement M
 worse-spec =
-    tie.close
-    (tie.spec compare-requires enum-told enum-told-2 enum-told-3 returns returns-2 returns-3)
+    tie.close (tie.spec (search needs) (search needs) (search needs) (search needs) returns returns-2 returns-3)

@@ -4,17 +4,8 @@ use Rattle.encoding.proofs.Signed.{kept}
 use Rattle.encoding.proofs.results.number_of.Statement.{statement}
 use Rattle.encoding.proofs.results.number_of.Tie as tie
 
-enum-told : tie.Need-enum-told
-enum-told c = search needs
-
-enum-known-feature : tie.Need-enum-known-feature
-enum-known-feature c = search needs
-
 signed-requires : tie.Need-signed-requires
 signed-requires c κs = rw (c .before .feature .given .1) at (c .before .before .before .pre)
-
-enum-known-feature-2 : tie.Need-enum-known-feature-2
-enum-known-feature-2 c = search needs
 
 signed-requires-2 : tie.Need-signed-requires-2
 signed-requires-2 c κs = rw (c .before .feature2 .given .1) at (c .before .before .before .pre)
@@ -32,10 +23,9 @@ pub number-of-spec : {M : Type 1} → statement M
 number-of-spec =
     tie.close
     (tie.spec
-    enum-told
-    enum-known-feature
+    (search needs) (search needs)
     signed-requires
-    enum-known-feature-2
+    (search needs)
     signed-requires-2
     returns
     returns-2

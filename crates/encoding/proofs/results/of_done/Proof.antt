@@ -4,18 +4,6 @@ use Rattle.encoding.proofs.Signed.{kept}
 use Rattle.encoding.proofs.results.of_done.Statement.{statement}
 use Rattle.encoding.proofs.results.of_done.Tie as tie
 
-cast-signed : tie.Need-cast-signed
-cast-signed c = search needs
-
-signed-requires : tie.Need-signed-requires
-signed-requires c κs = search needs
-
-signed-requires-2 : tie.Need-signed-requires-2
-signed-requires-2 c κs = search needs
-
-row-requires : tie.Need-row-requires
-row-requires c κs = search needs
-
 returns : tie.Need-returns
 returns c =
     let steps = kept (search sfits-of) (c .before .before .signed .ensures) in
@@ -23,5 +11,4 @@ returns c =
     rw (c .row .ensures, steps, clearance)
 
 pub of-done-spec : {M : Type 1} → statement M
-of-done-spec =
-    tie.close (tie.spec cast-signed signed-requires signed-requires-2 row-requires returns)
+of-done-spec = tie.close (tie.spec (search needs) (search needs) (search needs) (λ c κs. search needs) returns)

@@ -6,21 +6,6 @@ use Rattle.encoding.proofs.Signed.{kept}
 use Rattle.encoding.proofs.results.of_nearest.Statement.{statement}
 use Rattle.encoding.proofs.results.of_nearest.Tie as tie
 
-kind-of-requires : tie.Need-kind-of-requires
-kind-of-requires c κs = search needs
-
-number-of-requires : tie.Need-number-of-requires
-number-of-requires c κs = search needs
-
-signed-requires : tie.Need-signed-requires
-signed-requires c κs = search needs
-
-signed-requires-2 : tie.Need-signed-requires-2
-signed-requires-2 c κs = search needs
-
-signed-requires-3 : tie.Need-signed-requires-3
-signed-requires-3 c κs = search needs
-
 returns : tie.Need-returns
 returns c =
     let start = c .before .before .before .before .before .before in
@@ -36,11 +21,4 @@ returns c =
 
 pub of-nearest-spec : {M : Type 1} → statement M
 of-nearest-spec =
-    tie.close
-    (tie.spec
-    kind-of-requires
-    number-of-requires
-    signed-requires
-    signed-requires-2
-    signed-requires-3
-    returns)
+    tie.close (tie.spec (search needs) (λ c κs. search needs) (search needs) (search needs) (search needs) returns)

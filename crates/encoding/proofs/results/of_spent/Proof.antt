@@ -4,21 +4,6 @@ use Rattle.encoding.proofs.Signed.{kept}
 use Rattle.encoding.proofs.results.of_spent.Statement.{statement}
 use Rattle.encoding.proofs.results.of_spent.Tie as tie
 
-signed-requires : tie.Need-signed-requires
-signed-requires c κs = search needs
-
-signed-requires-2 : tie.Need-signed-requires-2
-signed-requires-2 c κs = search needs
-
-cast-signed : tie.Need-cast-signed
-cast-signed c = search needs
-
-signed-requires-3 : tie.Need-signed-requires-3
-signed-requires-3 c κs = search needs
-
-row-requires : tie.Need-row-requires
-row-requires c κs = search needs
-
 returns : tie.Need-returns
 returns c =
     let a = kept (search sfits-of) (c .before .before .before .before .signed .ensures) in
@@ -28,5 +13,4 @@ returns c =
 
 pub of-spent-spec : {M : Type 1} → statement M
 of-spent-spec =
-    tie.close
-    (tie.spec signed-requires signed-requires-2 cast-signed signed-requires-3 row-requires returns)
+    tie.close (tie.spec (search needs) (search needs) (search needs) (search needs) (λ c κs. search needs) returns)

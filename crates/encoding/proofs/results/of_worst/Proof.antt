@@ -3,15 +3,6 @@ use borrow.Author.Needs.{needs}
 use Rattle.encoding.proofs.results.of_worst.Statement.{statement}
 use Rattle.encoding.proofs.results.of_worst.Tie as tie
 
-enum-told : tie.Need-enum-told
-enum-told c = search needs
-
-array-set-of-none : tie.Need-array-set-of-none
-array-set-of-none c = search needs
-
-enum-known-worst : tie.Need-enum-known-worst
-enum-known-worst c = search needs
-
 of-corner-requires : tie.Need-of-corner-requires
 of-corner-requires c κs = rw (c .before .worst .given .1) at (c .before .before .before .pre)
 
@@ -22,5 +13,4 @@ returns-2 : tie.Need-returns-2
 returns-2 c = rw (c .before .before .worst .given .1) (c .of-corner .ensures)
 
 pub of-worst-spec : {M : Type 1} → statement M
-of-worst-spec =
-    tie.close (tie.spec enum-told array-set-of-none enum-known-worst of-corner-requires returns returns-2)
+of-worst-spec = tie.close (tie.spec (search needs) (search needs) (search needs) of-corner-requires returns returns-2)

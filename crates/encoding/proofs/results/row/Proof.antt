@@ -18,36 +18,6 @@ spread : (worst : WorstSoFar) (z : ℤ) → (let at : ℕ → ℤ = λ i. getD (
 spread None z = refl
 spread (Worst w) z = refl
 
-of-worst-requires : tie.Need-of-worst-requires
-of-worst-requires c κs = search needs
-
-array-copy-out-t11 : tie.Need-array-copy-out-t11
-array-copy-out-t11 c = search needs
-
-array-copy-out-t14 : tie.Need-array-copy-out-t14
-array-copy-out-t14 c = search needs
-
-array-copy-out-t17 : tie.Need-array-copy-out-t17
-array-copy-out-t17 c = search needs
-
-array-copy-out-t20 : tie.Need-array-copy-out-t20
-array-copy-out-t20 c = search needs
-
-array-copy-out-t23 : tie.Need-array-copy-out-t23
-array-copy-out-t23 c = search needs
-
-array-copy-out-t26 : tie.Need-array-copy-out-t26
-array-copy-out-t26 c = search needs
-
-array-copy-out-t29 : tie.Need-array-copy-out-t29
-array-copy-out-t29 c = search needs
-
-array-copy-out-t32 : tie.Need-array-copy-out-t32
-array-copy-out-t32 c = search needs
-
-array-copy-out-t35 : tie.Need-array-copy-out-t35
-array-copy-out-t35 c = search needs
-
 returns : tie.Need-returns
 returns c =
     let w = c .before .before .before .before .before .before .before .before .before .of-worst .ensures in
@@ -74,14 +44,6 @@ pub row-spec : {M : Type 1} → statement M
 row-spec =
     tie.close
     (tie.spec
-    of-worst-requires
-    array-copy-out-t11
-    array-copy-out-t14
-    array-copy-out-t17
-    array-copy-out-t20
-    array-copy-out-t23
-    array-copy-out-t26
-    array-copy-out-t29
-    array-copy-out-t32
-    array-copy-out-t35
+    (λ c κs. search needs) (search needs) (search needs) (search needs) (search needs) (search needs) (search needs)
+    (search needs) (search needs) (search needs)
     returns)

@@ -4,11 +4,8 @@ use Rattle.encoding.proofs.Signed.{read-back}
 use Rattle.encoding.proofs.results.signed.Statement.{statement}
 use Rattle.encoding.proofs.results.signed.Tie as tie
 
-cast-result : tie.Need-cast-result
-cast-result c = search needs
-
 returns : tie.Need-returns
 returns c = read-back (c .pre)
 
 pub signed-spec : {M : Type 1} → statement M
-signed-spec = tie.close (tie.spec cast-result returns)
+signed-spec = tie.close (tie.spec (search needs) returns)

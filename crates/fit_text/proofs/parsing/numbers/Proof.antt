@@ -20,15 +20,6 @@ abbrev μ-loop : tie.MeasureT-loop
 loop-holds : tie.Need-loop-holds Inv-loop μ-loop
 loop-holds c = none-read _ _ _ _ (c .before .pre)
 
-next-number-requires : tie.Need-next-number-requires Inv-loop μ-loop
-next-number-requires c κs = search needs
-
-enum-known-value : tie.Need-enum-known-value Inv-loop μ-loop
-enum-known-value c = search needs
-
-enum-told : tie.Need-enum-told Inv-loop μ-loop
-enum-told c = search needs
-
 same-length : tie.Need-same-length Inv-loop μ-loop
 same-length c = c .before .before .before .before .loop .inv .long
 
@@ -50,9 +41,6 @@ slice-set-from-value c =
 add-i : tie.Need-add-i Inv-loop μ-loop
 add-i c = omega (arith, c .before .before .before .before .before .before .before .fits .n)
 
-loop-less : tie.Need-loop-less Inv-loop μ-loop
-loop-less c = omega arith
-
 loop-again : tie.Need-loop-again Inv-loop μ-loop
 loop-again c =
     let z-fits : SFits w32 (c .before .value .given .0 .0) = search sfits-of in
@@ -68,19 +56,15 @@ returns-2 c = (c .before .before .before .pre, all-read (c .before .loop .inv) (
 pub numbers-spec : {M : Type 1} → statement M
 numbers-spec =
     tie.close
-    (tie.spec
-    Inv-loop
-    μ-loop
+    (tie.spec Inv-loop μ-loop
     loop-holds
-    next-number-requires
-    enum-known-value
-    enum-told
+    (search needs) (search needs) (search needs)
     same-length
     returns
     mul-value
     slice-set-from-value
     add-i
-    loop-less
+    (omega arith)
     loop-again
     same-length-2
     returns-2)

@@ -11,15 +11,6 @@ use Rattle.fit_text.proofs.InputLaws.{outline-stop, outline-negative, o
 use Rattle.fit_text.proofs.parsing.outline.Statement.{statement}
 use Rattle.fit_text.proofs.parsing.outline.Tie as tie
 
-next-number-requires : tie.Need-next-number-requires
-next-number-requires c κs = search needs
-
-enum-known-count : tie.Need-enum-known-count
-enum-known-count c = search needs
-
-enum-told : tie.Need-enum-told
-enum-told c = search needs
-
 returns : tie.Need-returns
 returns c =
     let first = sym (c .before .before .next-number .ensures) ∙ ap (asFirst _) (c .enum-told .given .1) in
@@ -30,9 +21,6 @@ returns-2 c =
     let z-fits : SFits w32 (c .before .before .count .given .0 .0) = search sfits-of in
     let first = sym (c .before .before .before .before .next-number .ensures) ∙ ap (asFirst _) (c .before .before .count .given .1) in
     (omega arith, outline-negative _ _ first (rw (toZ-ofZ z-fits) at (c .if1 .taken)))
-
-cast-if2 : tie.Need-cast-if2
-cast-if2 c = search needs
 
 returns-3 : tie.Need-returns-3
 returns-3 c =
@@ -59,9 +47,6 @@ numbers-requires c κs =
     let (positive, small) = count-bound count (c .before .before .if1 .left) (c .before .if2 .left) in
     omega (arith, c .before .before .before .before .before .before .before .before .pre)
 
-same-length : tie.Need-same-length
-same-length c = search needs
-
 returns-4 : tie.Need-returns-4
 returns-4 c =
     let z-fits : SFits w32 (c .before .before .before .before .before .before .count .given .0 .0) = search sfits-of in
@@ -76,15 +61,13 @@ pub outline-spec : {M : Type 1} → statement M
 outline-spec =
     tie.close
     (tie.spec
-    next-number-requires
-    enum-known-count
-    enum-told
+    (search needs) (search needs) (search needs)
     returns
     returns-2
-    cast-if2
+    (search needs)
     returns-3
     cast-numbers
     mul-numbers
     numbers-requires
-    same-length
+    (search needs)
     returns-4)

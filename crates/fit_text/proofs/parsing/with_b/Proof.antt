@@ -13,36 +13,6 @@ use Rattle.fit_text.proofs.InputLaws.{given-case, has-room, with-b-end,
 use Rattle.fit_text.proofs.parsing.with_b.Statement.{statement}
 use Rattle.fit_text.proofs.parsing.with_b.Tie as tie
 
-no-numbers-requires : tie.Need-no-numbers-requires
-no-numbers-requires c κs = search needs
-
-slice-aggregate-outline : tie.Need-slice-aggregate-outline
-slice-aggregate-outline c = search needs
-
-outline-requires : tie.Need-outline-requires
-outline-requires c κs = search needs
-
-enum-told : tie.Need-enum-told
-enum-told c = search needs
-
-enum-told-2 : tie.Need-enum-told-2
-enum-told-2 c = search needs
-
-too-many-requires : tie.Need-too-many-requires
-too-many-requires c κs = search needs
-
-slice-aggregate-compare : tie.Need-slice-aggregate-compare
-slice-aggregate-compare c = search needs
-
-compare-requires : tie.Need-compare-requires
-compare-requires c κs = search needs
-
-enum-known-n : tie.Need-enum-known-n
-enum-known-n c = search needs
-
-is-at-end-requires : tie.Need-is-at-end-requires
-is-at-end-requires c κs = search needs
-
 returns : tie.Need-returns
 returns c =
     let d = c .before .before .before in
@@ -58,9 +28,6 @@ slice-aggregate-compare-2 : tie.Need-slice-aggregate-compare-2
 slice-aggregate-compare-2 c =
     let called = c .before .before .before .before .before .before .before .outline in
     rw length-take (omega (arith, has-room (c .before .before .before .before .n .given .1) (called .ensures .0), called .kept .1 .1 .0))
-
-compare-requires-2 : tie.Need-compare-requires-2
-compare-requires-2 c κs = search needs
 
 returns-2 : tie.Need-returns-2
 returns-2 c =
@@ -85,20 +52,12 @@ pub with-b-spec : {M : Type 1} → statement M
 with-b-spec =
     tie.close
     (tie.spec
-    no-numbers-requires
-    slice-aggregate-outline
-    outline-requires
-    enum-told
-    enum-told-2
-    too-many-requires
-    slice-aggregate-compare
-    compare-requires
-    enum-known-n
-    is-at-end-requires
+    (search needs) (search needs) (search needs) (search needs) (search needs) (search needs) (search needs)
+    (search needs) (search needs) (search needs)
     returns
     array-share-prefix-b
     slice-aggregate-compare-2
-    compare-requires-2
+    (search needs)
     returns-2
     returns-3
     returns-4)

@@ -26,9 +26,6 @@ root-returns : (t : ℕ) → root-lts.Need-returns (root-below t, root.Post) (ro
 unfolding rootBy
 root-returns t c = rw (c .if1 .taken)
 
-root-root-requires : (t : ℕ) → root-lts.Need-root-requires (root-below t, root.Post) (root-at t) root.Post
-root-root-requires t c κs = search needs
-
 root-add-even : (t : ℕ) → root-lts.Need-add-even (root-below t, root.Post) (root-at t) root.Post
 root-add-even t c = record { fits = omega (arith, odd-fits (c .root .ensures) (omega arith)) }
 
@@ -53,7 +50,7 @@ pub +root-spec : {M : Type 1} → statement M
     (root-at t)
     root.Post
     (root-returns t)
-    (root-root-requires t)
+    (search needs)
     (root-add-even t)
     (root-add-odd t)
     (root-mul-if2 t)

@@ -13,28 +13,14 @@ Inv-loop list₀ y₀ i₀ list y i = (2 * y + i ≡ i * i) × (y ≤ 127 * i)
 abbrev μ-loop : tie.MeasureT-loop
 μ-loop list₀ y₀ i₀ list y i = 128 - i
 
-loop-holds : tie.Need-loop-holds Inv-loop μ-loop
-loop-holds c = search needs
-
 put-corners-requires : tie.Need-put-corners-requires Inv-loop μ-loop
 put-corners-requires c κs =
     let i = c .before .before .loop .i in omega (arith, mul-le-mul-right {m = i} {n = 127} i (omega arith))
 
-add-y : tie.Need-add-y Inv-loop μ-loop
-add-y c = search needs
-
-add-i : tie.Need-add-i Inv-loop μ-loop
-add-i c = search needs
-
-loop-less : tie.Need-loop-less Inv-loop μ-loop
-loop-less c = search needs
-
-loop-again : tie.Need-loop-again Inv-loop μ-loop
-loop-again c = search needs
-
-returns : tie.Need-returns Inv-loop μ-loop
-returns c = search needs
-
 pub list-spec : {M : Type 1} → statement M
 list-spec =
-    tie.close (tie.spec Inv-loop μ-loop loop-holds put-corners-requires add-y add-i loop-less loop-again returns)
+    tie.close
+    (tie.spec Inv-loop μ-loop
+    (search needs)
+    put-corners-requires
+    (search needs) (search needs) (search needs) (search needs) (search needs))

@@ -12,53 +12,14 @@ Inv-loop s from count items₀ next₀ i₀ items next i = count ≤ length item
 abbrev μ-loop : tie.MeasureT-loop
 μ-loop s from count items₀ next₀ i₀ items next i = count - i
 
-read-number-requires : tie.Need-read-number-requires Inv-loop μ-loop
-read-number-requires c κs = search needs
-
-at-most-requires : tie.Need-at-most-requires Inv-loop μ-loop
-at-most-requires c κs = search needs
-
-loop-holds : tie.Need-loop-holds Inv-loop μ-loop
-loop-holds c = search needs
-
-read-number-requires-2 : tie.Need-read-number-requires-2 Inv-loop μ-loop
-read-number-requires-2 c κs = search needs
-
-value-requires : tie.Need-value-requires Inv-loop μ-loop
-value-requires c κs = search needs
-
-mul-items : tie.Need-mul-items Inv-loop μ-loop
-mul-items c = search needs
-
-array-set-from-items : tie.Need-array-set-from-items Inv-loop μ-loop
-array-set-from-items c = search needs
-
-add-i : tie.Need-add-i Inv-loop μ-loop
-add-i c = search needs
-
-loop-less : tie.Need-loop-less Inv-loop μ-loop
-loop-less c = search needs
-
 loop-again : tie.Need-loop-again Inv-loop μ-loop
 loop-again c = rw length-set (omega arith)
-
-returns : tie.Need-returns Inv-loop μ-loop
-returns c = search needs
 
 pub read-list-spec : {M : Type 1} → statement M
 read-list-spec =
     tie.close
-    (tie.spec
-    Inv-loop
-    μ-loop
-    read-number-requires
-    at-most-requires
-    loop-holds
-    read-number-requires-2
-    value-requires
-    mul-items
-    array-set-from-items
-    add-i
-    loop-less
+    (tie.spec Inv-loop μ-loop
+    (search needs) (search needs) (search needs) (search needs) (search needs) (search needs) (search needs)
+    (search needs) (search needs)
     loop-again
-    returns)
+    (search needs))

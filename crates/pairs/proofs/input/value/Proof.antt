@@ -17,28 +17,13 @@ less-one (suc k) h = record { sfits = omega arith }
 less-fits : (k : ℕ) → k < 0x8000_0000 → SFits w32 (negsuc 0 -ℤ toZ w32 k)
 less-fits k h = rw (toZ-ofZ w32 (pos k) (record { sfits = omega arith })) (less-one k h)
 
-cast-result : tie.Need-cast-result
-cast-result c = search needs
-
-returns : tie.Need-returns
-returns c = search needs
-
-returns-2 : tie.Need-returns-2
-returns-2 c = search needs
-
-sub-result : tie.Need-sub-result
-sub-result c = search needs
-
-cast-result-2 : tie.Need-cast-result-2
-cast-result-2 c = search needs
-
 sub-result-2 : tie.Need-sub-result-2
 sub-result-2 c = less-fits ((c .before .before .before .args .number .size - 1) % 0x8000_0000) (omega arith)
-
-returns-3 : tie.Need-returns-3
-returns-3 c = search needs
 
 pub value-spec : {M : Type 1} → statement M
 value-spec =
     tie.close
-    (tie.spec cast-result returns returns-2 sub-result cast-result-2 sub-result-2 returns-3)
+    (tie.spec
+    (search needs) (search needs) (search needs) (search needs) (search needs)
+    sub-result-2
+    (search needs))

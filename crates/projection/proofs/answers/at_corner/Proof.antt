@@ -7,19 +7,10 @@ use Rattle.projection.proofs.Sizes.{length-cast, length-exact}
 use Rattle.projection.proofs.answers.at_corner.Statement.{statement}
 use Rattle.projection.proofs.answers.at_corner.Tie as tie
 
-difference-requires : tie.Need-difference-requires
-difference-requires c κs = search needs
-
-squared-length-requires : tie.Need-squared-length-requires
-squared-length-requires c κs = search span-difference
-
 cast-t7 : tie.Need-cast-t7
 cast-t7 c =
     let reached : Span reach (c .before .difference .result) = search span-difference in
     length-cast (c .squared-length .ensures) reached
-
-whole-requires : tie.Need-whole-requires
-whole-requires c κs = search needs
 
 returns : tie.Need-returns
 returns c =
@@ -32,5 +23,4 @@ returns c =
     }
 
 pub at-corner-spec : {M : Type 1} → statement M
-at-corner-spec =
-    tie.close (tie.spec difference-requires squared-length-requires cast-t7 whole-requires returns)
+at-corner-spec = tie.close (tie.spec (search needs) (λ c κs. search span-difference) cast-t7 (search needs) returns)

@@ -4,12 +4,6 @@ use Rattle.projection.proofs.Sizes.{length-cast, length-exact, side-squ
 use Rattle.projection.proofs.answers.edge_gap.Statement.{statement}
 use Rattle.projection.proofs.answers.edge_gap.Tie as tie
 
-side-requires : tie.Need-side-requires
-side-requires c κs = search needs
-
-squared-length-requires : tie.Need-squared-length-requires
-squared-length-requires c κs = search needs
-
 mul-t5 : tie.Need-mul-t5
 mul-t5 c = let pre = c .before .before .pre in side-square-fits (c .before .side .ensures) (pre .0) (pre .1)
 
@@ -28,5 +22,4 @@ returns c =
     }
 
 pub edge-gap-spec : {M : Type 1} → statement M
-edge-gap-spec =
-    tie.close (tie.spec side-requires squared-length-requires mul-t5 cast-t6 cast-t7 returns)
+edge-gap-spec = tie.close (tie.spec (search needs) (search needs) mul-t5 cast-t6 cast-t7 returns)

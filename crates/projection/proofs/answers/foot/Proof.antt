@@ -40,12 +40,6 @@ module _ {run to : Vector} {l t s r : ℤ} (run-in : Span reach run) (to-in : Sp
       let sum = plus (times length-is start-is) (times along-is run-is) in
       stored w64 (record { bound = sum .bound; exact = is ∙ sum .exact }) tt .exact
 
-squared-length-requires : tie.Need-squared-length-requires
-squared-length-requires c κs = search needs
-
-dot-requires : tie.Need-dot-requires
-dot-requires c κs = search needs
-
 coordinate-requires : tie.Need-coordinate-requires
 coordinate-requires c κs =
     let at-dot = c .before .before in
@@ -75,5 +69,4 @@ returns c =
     λ k. record { x = x k; y = y k; lower = lower k }
 
 pub foot-spec : {M : Type 1} → statement M
-foot-spec =
-    tie.close (tie.spec squared-length-requires dot-requires coordinate-requires coordinate-requires-2 cast-t8 returns)
+foot-spec = tie.close (tie.spec (search needs) (search needs) coordinate-requires coordinate-requires-2 cast-t8 returns)

@@ -5,18 +5,6 @@ use Rattle.nearest.specs.declared.Feature.the-variants.{Edge as OnEdge}
 use Rattle.projection.proofs.answers.on_edge.Statement.{statement}
 use Rattle.projection.proofs.answers.on_edge.Tie as tie
 
-difference-requires : tie.Need-difference-requires
-difference-requires c κs = search needs
-
-difference-requires-2 : tie.Need-difference-requires-2
-difference-requires-2 c κs = search needs
-
-edge-gap-requires : tie.Need-edge-gap-requires
-edge-gap-requires c κs = search span-difference
-
-foot-requires : tie.Need-foot-requires
-foot-requires c κs = search span-difference
-
 returns : tie.Need-returns
 returns c =
     let run = c .before .before .before .difference .ensures in
@@ -27,4 +15,7 @@ returns c =
 
 pub on-edge-spec : {M : Type 1} → statement M
 on-edge-spec =
-    tie.close (tie.spec difference-requires difference-requires-2 edge-gap-requires foot-requires returns)
+    tie.close
+    (tie.spec
+    (search needs) (search needs) (λ c κs. search span-difference) (λ c κs. search span-difference)
+    returns)

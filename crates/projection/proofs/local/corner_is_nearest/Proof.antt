@@ -38,15 +38,6 @@ module _ (v before c after : Corner) where
       → not s ≡ cornerIsNearest v before c after
   neither a b is = rw (not-above to-after a, not-above to-before b, is) (simp and-true)
 
-difference-requires : tie.Need-difference-requires
-difference-requires c κs = search needs
-
-difference-requires-2 : tie.Need-difference-requires-2
-difference-requires-2 c κs = search needs
-
-dot-requires : tie.Need-dot-requires
-dot-requires c κs = search span-difference
-
 returns : tie.Need-returns
 returns c =
     let dotted = c .before in let after-fits : SFits w64 (dotted .dot .result) = search sfits-of in
@@ -54,21 +45,12 @@ returns c =
     (rw (toZ-ofZ after-fits, dotted .dot .ensures, dotted .before .difference2 .ensures, dotted .before .before .difference .ensures)
     at (c .if1 .taken))
 
-difference-requires-3 : tie.Need-difference-requires-3
-difference-requires-3 c κs = search needs
-
-dot-requires-2 : tie.Need-dot-requires-2
-dot-requires-2 c κs = search span-difference
-
 returns-2 : tie.Need-returns-2
 returns-2 c =
     let dotted = c .before in let before-fits : SFits w64 (dotted .dot2 .result) = search sfits-of in
     let to = dotted .before .before .before .before .before in
     toward-before _ _ _ _
     (rw (toZ-ofZ before-fits, dotted .dot2 .ensures, dotted .before .difference3 .ensures, to .difference .ensures) at (c .if2 .taken))
-
-same-requires : tie.Need-same-requires
-same-requires c κs = search needs
 
 returns-3 : tie.Need-returns-3
 returns-3 c =
@@ -86,12 +68,9 @@ pub corner-is-nearest-spec : {M : Type 1} → statement M
 corner-is-nearest-spec =
     tie.close
     (tie.spec
-    difference-requires
-    difference-requires-2
-    dot-requires
+    (search needs) (search needs) (λ c κs. search span-difference)
     returns
-    difference-requires-3
-    dot-requires-2
+    (search needs) (λ c κs. search span-difference)
     returns-2
-    same-requires
+    (search needs)
     returns-3)

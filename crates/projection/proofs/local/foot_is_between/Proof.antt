@@ -25,24 +25,12 @@ module _ (v p q : Corner) where
   after-start : {a l : ℤ} → a ≡ t → leZ a (pos 0) ≡ false → l ≡ squaredLength p q → ltZ a l ≡ footIsBetween v p q
   after-start is-t not-before is-l = let after = <ℤ-ltZ (leZ-false {a = t} {b = pos 0} (rw is-t at not-before)) in rw (after, is-t, is-l)
 
-difference-requires : tie.Need-difference-requires
-difference-requires c κs = search needs
-
-difference-requires-2 : tie.Need-difference-requires-2
-difference-requires-2 c κs = search needs
-
-dot-requires : tie.Need-dot-requires
-dot-requires c κs = search span-difference
-
 returns : tie.Need-returns
 returns c =
     let dotted = c .before in let along-fits : SFits w64 (dotted .dot .result) = search sfits-of in
     before-start _ _ _
     (rw (toZ-ofZ along-fits, dotted .dot .ensures, dotted .before .difference2 .ensures, dotted .before .before .difference .ensures)
     at (c .if1 .taken))
-
-squared-length-requires : tie.Need-squared-length-requires
-squared-length-requires c κs = search span-difference
 
 returns-2 : tie.Need-returns-2
 returns-2 c =
@@ -57,9 +45,7 @@ pub foot-is-between-spec : {M : Type 1} → statement M
 foot-is-between-spec =
     tie.close
     (tie.spec
-    difference-requires
-    difference-requires-2
-    dot-requires
+    (search needs) (search needs) (λ c κs. search span-difference)
     returns
-    squared-length-requires
+    (λ c κs. search span-difference)
     returns-2)

@@ -7,19 +7,10 @@ use Rattle.plane.proofs.Range.{span-difference}
 use Rattle.projection.proofs.local.is_right.Statement.{statement}
 use Rattle.projection.proofs.local.is_right.Tie as tie
 
-difference-requires : tie.Need-difference-requires
-difference-requires c κs = search needs
-
-difference-requires-2 : tie.Need-difference-requires-2
-difference-requires-2 c κs = search needs
-
-side-requires : tie.Need-side-requires
-side-requires c κs = search span-difference
-
 returns : tie.Need-returns
 returns c =
     let side-fits : SFits w64 (c .side .result) = search sfits-of in
     rw (toZ-ofZ side-fits, c .side .ensures, c .before .difference2 .ensures, c .before .before .difference .ensures)
 
 pub is-right-spec : {M : Type 1} → statement M
-is-right-spec = tie.close (tie.spec difference-requires difference-requires-2 side-requires returns)
+is-right-spec = tie.close (tie.spec (search needs) (search needs) (λ c κs. search span-difference) returns)

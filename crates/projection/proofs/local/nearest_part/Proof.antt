@@ -32,14 +32,8 @@ module _ (v before p q after : Corner) where
         none : cornerIsNearest v p q after ≡ false → None ≡ nearestPart v before p q after
         none e = rw (right, not-between, not-start, e)
 
-is-right-requires : tie.Need-is-right-requires
-is-right-requires c κs = search needs
-
 returns : tie.Need-returns
 returns c = not-right _ _ _ _ _ (rw (c .before .is-right .ensures) at (c .if1 .taken))
-
-foot-is-between-requires : tie.Need-foot-is-between-requires
-foot-is-between-requires c κs = search needs
 
 returns-2 : tie.Need-returns-2
 returns-2 c =
@@ -47,18 +41,12 @@ returns-2 c =
     between _ _ _ _ _ (rw (right .before .is-right .ensures) at (right .if1 .left))
     (rw (c .before .foot-is-between .ensures) at (c .if2 .taken))
 
-corner-is-nearest-requires : tie.Need-corner-is-nearest-requires
-corner-is-nearest-requires c κs = search needs
-
 returns-3 : tie.Need-returns-3
 returns-3 c =
     let foot = c .before .before in let right = foot .before .before in
     start _ _ _ _ _ (rw (right .before .is-right .ensures) at (right .if1 .left))
     (rw (foot .before .foot-is-between .ensures) at (foot .if2 .left))
     (rw (c .before .corner-is-nearest .ensures) at (c .if3 .taken))
-
-corner-is-nearest-requires-2 : tie.Need-corner-is-nearest-requires-2
-corner-is-nearest-requires-2 c κs = search needs
 
 returns-4 : tie.Need-returns-4
 returns-4 c =
@@ -80,12 +68,12 @@ pub nearest-part-spec : {M : Type 1} → statement M
 nearest-part-spec =
     tie.close
     (tie.spec
-    is-right-requires
+    (search needs)
     returns
-    foot-is-between-requires
+    (search needs)
     returns-2
-    corner-is-nearest-requires
+    (search needs)
     returns-3
-    corner-is-nearest-requires-2
+    (search needs)
     returns-4
     returns-5)

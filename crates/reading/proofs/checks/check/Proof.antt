@@ -8,25 +8,10 @@ use Rattle.outline.proofs.Stages.{outOfRange-passed}
 use Rattle.reading.proofs.checks.check.Statement.{statement}
 use Rattle.reading.proofs.checks.check.Tie as tie
 
-check-count-requires : tie.Need-check-count-requires
-check-count-requires c κs = search needs
-
-enum-known-f : tie.Need-enum-known-f
-enum-known-f c = search needs
-
 returns : tie.Need-returns
 unfolding check
 returns c =
     sym (orElse-stops _ (orElse-stops _ (orElse-stops _ (sym (c .before .before .before .check-count .ensures) ∙ c .before .f .given .1))))
-
-enum-told : tie.Need-enum-told
-enum-told c = search needs
-
-check-range-requires : tie.Need-check-range-requires
-check-range-requires c κs = search needs
-
-enum-known-f-2 : tie.Need-enum-known-f-2
-enum-known-f-2 c = search needs
 
 returns-2 : tie.Need-returns-2
 unfolding check
@@ -35,15 +20,6 @@ returns-2 c =
     ∙ c .before .before .before .before .enum-told .given .1 in
     sym
     (orElse-stops _ (orElse-stops _ (orElse-goes-on count (sym (c .before .before .before .check-range .ensures) ∙ c .before .f2 .given .1))))
-
-enum-told-2 : tie.Need-enum-told-2
-enum-told-2 c = search needs
-
-check-repeated-requires : tie.Need-check-repeated-requires
-check-repeated-requires c κs = search needs
-
-enum-known-f-3 : tie.Need-enum-known-f-3
-enum-known-f-3 c = search needs
 
 returns-3 : tie.Need-returns-3
 unfolding check
@@ -54,9 +30,6 @@ returns-3 c =
     ∙ c .before .before .before .before .enum-told2 .given .1 in
     sym (orElse-stops _
     (orElse-goes-on (orElse-goes-on count range) (sym (c .before .before .before .check-repeated .ensures) ∙ c .before .f3 .given .1)))
-
-enum-told-3 : tie.Need-enum-told-3
-enum-told-3 c = search needs
 
 check-convex-requires : tie.Need-check-convex-requires
 check-convex-requires c κs =
@@ -77,17 +50,12 @@ pub check-spec : {M : Type 1} → statement M
 check-spec =
     tie.close
     (tie.spec
-    check-count-requires
-    enum-known-f
+    (search needs) (search needs)
     returns
-    enum-told
-    check-range-requires
-    enum-known-f-2
+    (search needs) (search needs) (search needs)
     returns-2
-    enum-told-2
-    check-repeated-requires
-    enum-known-f-3
+    (search needs) (search needs) (search needs)
     returns-3
-    enum-told-3
+    (search needs)
     check-convex-requires
     returns-4)

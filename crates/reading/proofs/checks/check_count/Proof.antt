@@ -7,9 +7,6 @@ use Rattle.reading.proofs.checks.check_count.Tie as tie
 returns : tie.Need-returns
 returns c = rw (eq-eqb _ 1 (c .if1 .taken))
 
-count-requires : tie.Need-count-requires
-count-requires c κs = search needs
-
 returns-2 : tie.Need-returns-2
 returns-2 c = rw (ne-eqb _ 1 (c .before .before .if1 .left), ← c .before .count .ensures, lt-ltb _ 3 (c .if2 .taken))
 
@@ -34,4 +31,4 @@ returns-4 c =
     )
 
 pub check-count-spec : {M : Type 1} → statement M
-check-count-spec = tie.close (tie.spec returns count-requires returns-2 returns-3 returns-4)
+check-count-spec = tie.close (tie.spec returns (search needs) returns-2 returns-3 returns-4)

@@ -37,17 +37,11 @@ Inv-loop s e n edge c₀ c = Testing (isNotLeft (corners s) e) (NotLeft e) (leng
 abbrev μ-loop : tie.MeasureT-loop
 μ-loop s e n edge c₀ c = n - c
 
-count-requires : tie.Need-count-requires Inv-loop μ-loop
-count-requires c κs = search needs
-
 take-edge-requires : tie.Need-take-edge-requires Inv-loop μ-loop
 take-edge-requires c κs = c .before .pre .0
 
 loop-holds : tie.Need-loop-holds Inv-loop μ-loop
 loop-holds c = test-start _ _ _
-
-corner-requires : tie.Need-corner-requires Inv-loop μ-loop
-corner-requires c κs = omega arith
 
 is-not-left-requires : tie.Need-is-not-left-requires Inv-loop μ-loop
 is-not-left-requires c κs =
@@ -62,12 +56,6 @@ returns c =
     (c .before .before .before .before .before .take-edge .ensures) (c .before .before .corner .ensures)
     (c .before .is-not-left .ensures) (c .if1 .taken))
 
-add-c : tie.Need-add-c Inv-loop μ-loop
-add-c c = omega arith
-
-loop-less : tie.Need-loop-less Inv-loop μ-loop
-loop-less c = omega arith
-
 loop-again : tie.Need-loop-again Inv-loop μ-loop
 loop-again c =
     test-on (c .before .before .before .before .loop .inv) (omega arith) (decided (corners _) _ _
@@ -81,16 +69,13 @@ returns-2 c = test-none (c .before .loop .inv) (omega arith)
 pub check-edge-spec : {M : Type 1} → statement M
 check-edge-spec =
     tie.close
-    (tie.spec
-    Inv-loop
-    μ-loop
-    count-requires
+    (tie.spec Inv-loop μ-loop
+    (search needs)
     take-edge-requires
     loop-holds
-    corner-requires
+    (omega arith)
     is-not-left-requires
     returns
-    add-c
-    loop-less
+    (omega arith) (omega arith)
     loop-again
     returns-2)

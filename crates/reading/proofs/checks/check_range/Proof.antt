@@ -18,29 +18,14 @@ Inv-loop s n i₀ i = Testing (λ j. not (inRange (corner (corners s) j))) OutOf
 abbrev μ-loop : tie.MeasureT-loop
 μ-loop s n i₀ i = n - i
 
-count-requires : tie.Need-count-requires Inv-loop μ-loop
-count-requires c κs = search needs
-
 loop-holds : tie.Need-loop-holds Inv-loop μ-loop
 loop-holds c = test-start _ _ _
-
-corner-requires : tie.Need-corner-requires Inv-loop μ-loop
-corner-requires c κs = omega arith
-
-in-range-requires : tie.Need-in-range-requires Inv-loop μ-loop
-in-range-requires c κs = search needs
 
 returns : tie.Need-returns Inv-loop μ-loop
 unfolding outOfRange
 returns c =
     test-found (c .before .before .before .before .loop .inv) (omega arith)
     (rw (c .before .in-range .ensures, c .before .before .corner .ensures) at (c .if1 .taken))
-
-add-i : tie.Need-add-i Inv-loop μ-loop
-add-i c = omega arith
-
-loop-less : tie.Need-loop-less Inv-loop μ-loop
-loop-less c = omega arith
 
 loop-again : tie.Need-loop-again Inv-loop μ-loop
 loop-again c =
@@ -54,15 +39,11 @@ returns-2 c = test-none (c .before .loop .inv) (omega arith)
 pub check-range-spec : {M : Type 1} → statement M
 check-range-spec =
     tie.close
-    (tie.spec
-    Inv-loop
-    μ-loop
-    count-requires
+    (tie.spec Inv-loop μ-loop
+    (search needs)
     loop-holds
-    corner-requires
-    in-range-requires
+    (omega arith) (search needs)
     returns
-    add-i
-    loop-less
+    (omega arith) (omega arith)
     loop-again
     returns-2)

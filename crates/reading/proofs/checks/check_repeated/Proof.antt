@@ -19,23 +19,11 @@ Inv-loop s n i₀ i =
 abbrev μ-loop : tie.MeasureT-loop
 μ-loop s n i₀ i = n - i
 
-count-requires : tie.Need-count-requires Inv-loop μ-loop
-count-requires c κs = search needs
-
 loop-holds : tie.Need-loop-holds Inv-loop μ-loop
 loop-holds c = test-start _ _ _
 
-corner-requires : tie.Need-corner-requires Inv-loop μ-loop
-corner-requires c κs = omega arith
-
-next-requires : tie.Need-next-requires Inv-loop μ-loop
-next-requires c κs = omega arith
-
 corner-requires-2 : tie.Need-corner-requires-2 Inv-loop μ-loop
 corner-requires-2 c κs = rw (c .next .ensures, c .before .before .before .before .count .ensures) (next-below _ _ (omega arith))
-
-same-requires : tie.Need-same-requires Inv-loop μ-loop
-same-requires c κs = search needs
 
 returns : tie.Need-returns Inv-loop μ-loop
 unfolding repeated
@@ -49,12 +37,6 @@ returns c =
       c .before .before .before .before .before .before .before .count .ensures,
     )
     at (c .if1 .taken))
-
-add-i : tie.Need-add-i Inv-loop μ-loop
-add-i c = omega arith
-
-loop-less : tie.Need-loop-less Inv-loop μ-loop
-loop-less c = omega arith
 
 loop-again : tie.Need-loop-again Inv-loop μ-loop
 loop-again c =
@@ -75,17 +57,13 @@ returns-2 c = test-none (c .before .loop .inv) (omega arith)
 pub check-repeated-spec : {M : Type 1} → statement M
 check-repeated-spec =
     tie.close
-    (tie.spec
-    Inv-loop
-    μ-loop
-    count-requires
+    (tie.spec Inv-loop μ-loop
+    (search needs)
     loop-holds
-    corner-requires
-    next-requires
+    (omega arith) (omega arith)
     corner-requires-2
-    same-requires
+    (search needs)
     returns
-    add-i
-    loop-less
+    (omega arith) (omega arith)
     loop-again
     returns-2)

@@ -15,32 +15,17 @@ Inv-loop s n e₀ e = Scanning (notLeftOf (corners s)) (length (corners s)) e
 abbrev μ-loop : tie.MeasureT-loop
 μ-loop s n e₀ e = n - e
 
-count-requires : tie.Need-count-requires Inv-loop μ-loop
-count-requires c κs = search needs
-
 loop-holds : tie.Need-loop-holds Inv-loop μ-loop
 loop-holds c = scan-start _ _
 
 check-edge-requires : tie.Need-check-edge-requires Inv-loop μ-loop
 check-edge-requires c κs = (omega arith, c .before .before .before .pre)
 
-enum-known-f : tie.Need-enum-known-f Inv-loop μ-loop
-enum-known-f c = search needs
-
 returns : tie.Need-returns Inv-loop μ-loop
 unfolding notLeft
 returns c =
     scan-found (c .before .before .before .before .before .loop .inv) (omega arith)
     (rw (c .before .before .before .check-edge .ensures) at (c .before .f .given .1))
-
-enum-told : tie.Need-enum-told Inv-loop μ-loop
-enum-told c = search needs
-
-add-e : tie.Need-add-e Inv-loop μ-loop
-add-e c = omega arith
-
-loop-less : tie.Need-loop-less Inv-loop μ-loop
-loop-less c = omega arith
 
 loop-again : tie.Need-loop-again Inv-loop μ-loop
 loop-again c =
@@ -54,16 +39,12 @@ returns-2 c = scan-none (c .before .loop .inv) (omega arith)
 pub find-not-left-spec : {M : Type 1} → statement M
 find-not-left-spec =
     tie.close
-    (tie.spec
-    Inv-loop
-    μ-loop
-    count-requires
+    (tie.spec Inv-loop μ-loop
+    (search needs)
     loop-holds
     check-edge-requires
-    enum-known-f
+    (search needs)
     returns
-    enum-told
-    add-e
-    loop-less
+    (search needs) (omega arith) (omega arith)
     loop-again
     returns-2)

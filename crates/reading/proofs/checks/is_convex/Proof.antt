@@ -36,42 +36,12 @@ decided cs i is-from is-second is-run is-p is-q is-v answer is =
 known : (cs : List Corner) (i : ℕ) {p : Corner} → AllInRange cs → p ≡ corner cs i → i < length cs → InRange p
 known cs i all is below = rw is (all i below)
 
-count-requires : tie.Need-count-requires Inv-loop μ-loop
-count-requires c κs = search needs
-
 returns : tie.Need-returns Inv-loop μ-loop
 unfolding isConvex all
 returns c = let none : length (corners (c .before .before .args .s .now)) - 2 ≡ 0 = omega arith in rw none
 
-corner-requires : tie.Need-corner-requires Inv-loop μ-loop
-corner-requires c κs = omega arith
-
-corner-requires-2 : tie.Need-corner-requires-2 Inv-loop μ-loop
-corner-requires-2 c κs = omega arith
-
-difference-requires : tie.Need-difference-requires Inv-loop μ-loop
-difference-requires c κs = search needs
-
 loop-holds : tie.Need-loop-holds Inv-loop μ-loop
 loop-holds c = pass-start _ _
-
-add-loop : tie.Need-add-loop Inv-loop μ-loop
-add-loop c = omega arith
-
-corner-requires-3 : tie.Need-corner-requires-3 Inv-loop μ-loop
-corner-requires-3 c κs = omega arith
-
-add-corner : tie.Need-add-corner Inv-loop μ-loop
-add-corner c = omega arith
-
-corner-requires-4 : tie.Need-corner-requires-4 Inv-loop μ-loop
-corner-requires-4 c κs = omega arith
-
-add-corner-2 : tie.Need-add-corner-2 Inv-loop μ-loop
-add-corner-2 c = omega arith
-
-corner-requires-5 : tie.Need-corner-requires-5 Inv-loop μ-loop
-corner-requires-5 c κs = omega arith
 
 keeps-left-requires : tie.Need-keeps-left-requires Inv-loop μ-loop
 keeps-left-requires c κs =
@@ -92,12 +62,6 @@ returns-2 c =
     (taken .before .before .corner3 .ensures) (taken .before .corner4 .ensures) (taken .corner5 .ensures) (c .before .keeps-left .ensures)
     (not-true (c .before .keeps-left .result) (c .if2 .taken)))
 
-add-i : tie.Need-add-i Inv-loop μ-loop
-add-i c = omega arith
-
-loop-less : tie.Need-loop-less Inv-loop μ-loop
-loop-less c = omega arith
-
 loop-again : tie.Need-loop-again Inv-loop μ-loop
 loop-again c =
     let taken = c .before .before in let begun = taken .before .before .before .before .before in
@@ -113,24 +77,14 @@ returns-3 c = pass-all (c .before .loop .inv) (omega arith)
 pub is-convex-spec : {M : Type 1} → statement M
 is-convex-spec =
     tie.close
-    (tie.spec
-    Inv-loop
-    μ-loop
-    count-requires
+    (tie.spec Inv-loop μ-loop
+    (search needs)
     returns
-    corner-requires
-    corner-requires-2
-    difference-requires
+    (omega arith) (omega arith) (search needs)
     loop-holds
-    add-loop
-    corner-requires-3
-    add-corner
-    corner-requires-4
-    add-corner-2
-    corner-requires-5
+    (omega arith) (omega arith) (omega arith) (omega arith) (omega arith) (omega arith)
     keeps-left-requires
     returns-2
-    add-i
-    loop-less
+    (omega arith) (omega arith)
     loop-again
     returns-3)

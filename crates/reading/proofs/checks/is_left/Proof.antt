@@ -7,16 +7,10 @@ use Rattle.plane.proofs.Range.{span-difference}
 use Rattle.reading.proofs.checks.is_left.Statement.{statement}
 use Rattle.reading.proofs.checks.is_left.Tie as tie
 
-difference-requires : tie.Need-difference-requires
-difference-requires c κs = search needs
-
-side-requires : tie.Need-side-requires
-side-requires c κs = search span-difference
-
 returns : tie.Need-returns
 returns c =
     let side-fits : SFits w64 (c .side .result) = search sfits-of in
     rw (toZ-ofZ side-fits, c .side .ensures, c .before .difference .ensures)
 
 pub is-left-spec : {M : Type 1} → statement M
-is-left-spec = tie.close (tie.spec difference-requires side-requires returns)
+is-left-spec = tie.close (tie.spec (search needs) (λ c κs. search span-difference) returns)

@@ -29,12 +29,6 @@ returns c = at-start _ _ _ _ (c .if1 .taken)
 returns-2 : tie.Need-returns-2
 returns-2 c = at-end _ _ _ _ (c .before .before .if1 .left) (c .if2 .taken)
 
-difference-requires : tie.Need-difference-requires
-difference-requires c κs = search needs
-
-side-requires : tie.Need-side-requires
-side-requires c κs = search span-difference
-
 returns-3 : tie.Need-returns-3
 returns-3 c =
     let side-fits : SFits w64 (c .side .result) = search sfits-of in
@@ -42,4 +36,4 @@ returns-3 c =
     (elsewhere _ _ _ _ (c .before .before .before .before .if1 .left) (c .before .before .if2 .left))
 
 pub is-not-left-spec : {M : Type 1} → statement M
-is-not-left-spec = tie.close (tie.spec returns returns-2 difference-requires side-requires returns-3)
+is-not-left-spec = tie.close (tie.spec returns returns-2 (search needs) (λ c κs. search span-difference) returns-3)

@@ -19,14 +19,8 @@ module _ (a b c : Bool) {r : Bool} (first : r ≡ a) where
     third-decides : not t ≡ false → c ≡ (a && b && c)
     third-decides passes-too = rw (← first, not-false r passes, ← second, not-false t passes-too)
 
-is-left-requires : tie.Need-is-left-requires
-is-left-requires c κs = search needs
-
 returns : tie.Need-returns
 returns c = first-fails _ _ _ (c .before .is-left .ensures) (c .if1 .taken)
-
-difference-requires : tie.Need-difference-requires
-difference-requires c κs = search needs
 
 is-left-requires-2 : tie.Need-is-left-requires-2
 is-left-requires-2 c κs = (search span-difference, (search needs, search needs))
@@ -35,9 +29,6 @@ returns-2 : tie.Need-returns-2
 returns-2 c =
     second-fails _ _ _ (c .before .before .before .before .is-left .ensures) (c .before .before .before .if1 .left)
     (rw (c .before .before .difference .ensures) at (c .before .is-left2 .ensures)) (c .if2 .taken)
-
-difference-requires-2 : tie.Need-difference-requires-2
-difference-requires-2 c κs = search needs
 
 is-left-requires-3 : tie.Need-is-left-requires-3
 is-left-requires-3 c κs = (search span-difference, (search needs, search needs))
@@ -53,11 +44,11 @@ pub keeps-left-spec : {M : Type 1} → statement M
 keeps-left-spec =
     tie.close
     (tie.spec
-    is-left-requires
+    (search needs)
     returns
-    difference-requires
+    (search needs)
     is-left-requires-2
     returns-2
-    difference-requires-2
+    (search needs)
     is-left-requires-3
     returns-3)

@@ -23,21 +23,9 @@ edge-is cs e {f} {v} counted follows starts ends runs =
     let run-is : v ≡ corner cs e ⇀ corner cs (next (length cs) e) = cc in
     λ i. record { start = e; end = end-is i; from = starts i; run = run-is i }
 
-count-requires : tie.Need-count-requires
-count-requires c κs = search needs
-
-next-requires : tie.Need-next-requires
-next-requires c κs = omega arith
-
-corner-requires : tie.Need-corner-requires
-corner-requires c κs = search needs
-
 corner-requires-2 : tie.Need-corner-requires-2
 corner-requires-2 c κs =
     rw (c .before .next .ensures, c .before .before .count .ensures) (next-below _ _ (omega arith))
-
-difference-requires : tie.Need-difference-requires
-difference-requires c κs = search needs
 
 returns : tie.Need-returns
 returns c =
@@ -46,4 +34,4 @@ returns c =
 
 pub take-edge-spec : {M : Type 1} → statement M
 take-edge-spec =
-    tie.close (tie.spec count-requires next-requires corner-requires corner-requires-2 difference-requires returns)
+    tie.close (tie.spec (search needs) (omega arith) (search needs) corner-requires-2 (search needs) returns)

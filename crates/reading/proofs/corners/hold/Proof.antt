@@ -41,26 +41,8 @@ Inv-loop s n places₀ i₀ places i = Filling s n places i
 abbrev μ-loop : tie.MeasureT-loop
 μ-loop s n places₀ i₀ places i = n - i
 
-count-requires : tie.Need-count-requires Inv-loop μ-loop
-count-requires c κs = search needs
-
 loop-holds : tie.Need-loop-holds Inv-loop μ-loop
 loop-holds c = record { counted = c .count .ensures; turn = omega arith; fits = rw (c .count .ensures) (c .before .pre); placed = refl }
-
-corner-requires : tie.Need-corner-requires Inv-loop μ-loop
-corner-requires c κs = omega arith
-
-mul-places : tie.Need-mul-places Inv-loop μ-loop
-mul-places c = omega arith
-
-array-set-from-places : tie.Need-array-set-from-places Inv-loop μ-loop
-array-set-from-places c = omega arith
-
-add-i : tie.Need-add-i Inv-loop μ-loop
-add-i c = omega arith
-
-loop-less : tie.Need-loop-less Inv-loop μ-loop
-loop-less c = omega arith
 
 loop-again : tie.Need-loop-again Inv-loop μ-loop
 loop-again c =
@@ -82,15 +64,9 @@ returns c =
 pub hold-spec : {M : Type 1} → statement M
 hold-spec =
     tie.close
-    (tie.spec
-    Inv-loop
-    μ-loop
-    count-requires
+    (tie.spec Inv-loop μ-loop
+    (search needs)
     loop-holds
-    corner-requires
-    mul-places
-    array-set-from-places
-    add-i
-    loop-less
+    (omega arith) (omega arith) (omega arith) (omega arith) (omega arith)
     loop-again
     returns)

@@ -7,12 +7,6 @@ use Rattle.outline.proofs.CornersLaws.{next-suc, next-last}
 use Rattle.reading.proofs.corners.next.Statement.{statement}
 use Rattle.reading.proofs.corners.next.Tie as tie
 
-add-if1 : tie.Need-add-if1
-add-if1 c = search needs
-
-add-result : tie.Need-add-result
-add-result c = search needs
-
 returns : tie.Need-returns
 returns c =
     add-one (c .before .args .i) ∙ sym (next-suc (c .before .args .n) (c .before .args .i) (omega arith))
@@ -21,4 +15,4 @@ returns-2 : tie.Need-returns-2
 returns-2 c = sym (next-last (c .before .args .n) (c .before .args .i) (omega arith))
 
 pub next-spec : {M : Type 1} → statement M
-next-spec = tie.close (tie.spec add-if1 add-result returns returns-2)
+next-spec = tie.close (tie.spec (search needs) (search needs) returns returns-2)

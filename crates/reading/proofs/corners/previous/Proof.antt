@@ -12,12 +12,6 @@ later : (n i : ℕ) → i ≢ 0 → i - 1 ≡ previous n i
 later n zero other = absurd (other refl)
 later n (suc i) other = omega arith
 
-sub-result : tie.Need-sub-result
-sub-result c = search needs
-
-sub-result-2 : tie.Need-sub-result-2
-sub-result-2 c = search needs
-
 returns : tie.Need-returns
 returns c = sym (ap (previous _) (c .if1 .taken))
 
@@ -25,4 +19,4 @@ returns-2 : tie.Need-returns-2
 returns-2 c = later _ _ (c .if1 .left)
 
 pub previous-spec : {M : Type 1} → statement M
-previous-spec = tie.close (tie.spec sub-result sub-result-2 returns returns-2)
+previous-spec = tie.close (tie.spec (search needs) (search needs) returns returns-2)

@@ -3,12 +3,6 @@ use borrow.Author.Needs.{needs}
 use Rattle.reading.proofs.refusals.refusal.Statement.{statement}
 use Rattle.reading.proofs.refusals.refusal.Tie as tie
 
-number-requires : tie.Need-number-requires
-number-requires c κs = search needs
-
-place-requires : tie.Need-place-requires
-place-requires c κs = search needs
-
 returns : tie.Need-returns
 returns c = λ i. record {
   number = c .before .number .ensures i;
@@ -17,4 +11,4 @@ returns c = λ i. record {
 }
 
 pub refusal-spec : {M : Type 1} → statement M
-refusal-spec = tie.close (tie.spec number-requires place-requires returns)
+refusal-spec = tie.close (tie.spec (search needs) (search needs) returns)

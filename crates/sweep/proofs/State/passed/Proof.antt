@@ -30,9 +30,6 @@ module _ {self : State} {a b : Window} {t : Bool} (asks : Passable self a b)
   a-advances : t ≡ false → (self .a .support < a .count) × (0 < self .a .remaining)
   a-advances next = (asks .known-a, a-some a b (self .a .remaining) (self .b .remaining) (sym is ∙ next))
 
-b-is-next-requires : tie.Need-b-is-next-requires
-b-is-next-requires c κs = search needs
-
 advanced-requires : tie.Need-advanced-requires
 advanced-requires c κs = b-advances (c .before .before .before .before .pre) (c .before .b-is-next .ensures) (c .if1 .taken)
 
@@ -46,5 +43,4 @@ returns-2 : tie.Need-returns-2
 returns-2 c = rw (← c .before .before .b-is-next .ensures, c .before .if1 .left, c .advanced2 .ensures)
 
 pub passed-spec : {M : Type 1} → statement M
-passed-spec =
-    tie.close (tie.spec b-is-next-requires advanced-requires returns advanced-requires-2 returns-2)
+passed-spec = tie.close (tie.spec (λ c κs. search needs) advanced-requires returns advanced-requires-2 returns-2)

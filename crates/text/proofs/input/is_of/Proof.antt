@@ -5,12 +5,6 @@ use mathlib.Core.Path.{ap}
 use Rattle.text.proofs.input.is_of.Statement.{statement}
 use Rattle.text.proofs.input.is_of.Tie as tie
 
-is-separator-requires : tie.Need-is-separator-requires
-is-separator-requires c κs = search needs
-
-is-separator-requires-2 : tie.Need-is-separator-requires-2
-is-separator-requires-2 c κs = search needs
-
 returns : tie.Need-returns
 returns c = rw (c .before .if1 .taken) (c .is-separator .ensures)
 
@@ -18,4 +12,4 @@ returns-2 : tie.Need-returns-2
 returns-2 c = rw (c .before .if1 .left) (ap not (c .is-separator2 .ensures))
 
 pub is-of-spec : {M : Type 1} → statement M
-is-of-spec = tie.close (tie.spec is-separator-requires is-separator-requires-2 returns returns-2)
+is-of-spec = tie.close (tie.spec (search needs) (search needs) returns returns-2)

@@ -65,12 +65,6 @@ returns-2 c = sym (natural-long (c .before .before .before .args .w .now) (c .if
 loop-holds : tie.Need-loop-holds Inv-loop μ-loop
 loop-holds c = none-passed (c .before .before .before .args .w .now) (omega arith) (omega arith)
 
-shared-slice-read-b : tie.Need-shared-slice-read-b Inv-loop μ-loop
-shared-slice-read-b c = omega arith
-
-is-digit-requires : tie.Need-is-digit-requires Inv-loop μ-loop
-is-digit-requires c κs = search needs
-
 returns-3 : tie.Need-returns-3 Inv-loop μ-loop
 returns-3 c =
     stops (c .before .before .before .before .loop .inv) (omega arith) (sym (c .before .is-digit .ensures) ∙ not-true _ (c .if3 .taken))
@@ -80,12 +74,6 @@ with-digit-requires c κs = (
   four-digits (c .before .before .before .before .loop .inv) (omega arith),
   sym (c .before .is-digit .ensures) ∙ not-false _ (c .if3 .left),
 )
-
-add-i : tie.Need-add-i Inv-loop μ-loop
-add-i c = omega arith
-
-loop-less : tie.Need-loop-less Inv-loop μ-loop
-loop-less c = omega arith
 
 loop-again : tie.Need-loop-again Inv-loop μ-loop
 loop-again c =
@@ -98,17 +86,13 @@ returns-4 c = all-passed (c .before .loop .inv) (omega arith)
 pub natural-spec : {M : Type 1} → statement M
 natural-spec =
     tie.close
-    (tie.spec
-    Inv-loop
-    μ-loop
+    (tie.spec Inv-loop μ-loop
     returns
     returns-2
     loop-holds
-    shared-slice-read-b
-    is-digit-requires
+    (omega arith) (search needs)
     returns-3
     with-digit-requires
-    add-i
-    loop-less
+    (omega arith) (omega arith)
     loop-again
     returns-4)

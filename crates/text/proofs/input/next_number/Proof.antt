@@ -39,36 +39,15 @@ module _ (s : List ℕ) (from : ℕ) {start end : ℕ}
       → firstNumber (words (drop from s)) ≡ followed (words (drop end s)) p
   found some is = rw (word some, is)
 
-run-end-requires : tie.Need-run-end-requires
-run-end-requires c κs = search needs
-
-run-end-requires-2 : tie.Need-run-end-requires-2
-run-end-requires-2 c κs = search needs
-
 returns : tie.Need-returns
 returns c =
     let a = c .before .before .before .before .args in
     nothing (a .s .now) (a .from) (c .before .before .run-end .ensures) (c .before .run-end2 .ensures) (c .if1 .taken)
 
-sub-number : tie.Need-sub-number
-sub-number c = search needs
-
-part-number-start : tie.Need-part-number-start
-part-number-start c = search needs
-
 part-number-end : tie.Need-part-number-end
 part-number-end c =
     let a = c .before .before .before .before .args in
     within (a .s .now) (a .from) (c .before .before .run-end .ensures) (c .before .run-end2 .ensures) (omega arith)
-
-number-requires : tie.Need-number-requires
-number-requires c κs = search needs
-
-enum-known-value : tie.Need-enum-known-value
-enum-known-value c = search needs
-
-enum-told : tie.Need-enum-told
-enum-told c = search needs
 
 returns-2 : tie.Need-returns-2
 returns-2 c =
@@ -87,14 +66,10 @@ pub next-number-spec : {M : Type 1} → statement M
 next-number-spec =
     tie.close
     (tie.spec
-    run-end-requires
-    run-end-requires-2
+    (search needs) (search needs)
     returns
-    sub-number
-    part-number-start
+    (search needs) (search needs)
     part-number-end
-    number-requires
-    enum-known-value
-    enum-told
+    (search needs) (search needs) (search needs)
     returns-2
     returns-3)

@@ -33,21 +33,6 @@ short w is = rw is (natural-short w)
 returns : tie.Need-returns
 returns c = empty _ (c .if1 .taken)
 
-shared-slice-read-if2 : tie.Need-shared-slice-read-if2
-shared-slice-read-if2 c = search needs
-
-sub-natural : tie.Need-sub-natural
-sub-natural c = search needs
-
-part-natural-start : tie.Need-part-natural-start
-part-natural-start c = search needs
-
-part-natural-end : tie.Need-part-natural-end
-part-natural-end c = search needs
-
-natural-requires : tie.Need-natural-requires
-natural-requires c κs = search needs
-
 signed-requires : tie.Need-signed-requires
 signed-requires c κs = short _ (c .natural .ensures)
 
@@ -56,9 +41,6 @@ returns-2 c =
     let w = c .before .before .before .before .before .before .before .args .w .now in
     let minus = with-minus w (omega arith) (c .before .before .before .if2 .taken) in
     c .signed .ensures ∙ ap (signed true) (c .before .natural .ensures) ∙ minus
-
-natural-requires-2 : tie.Need-natural-requires-2
-natural-requires-2 c κs = search needs
 
 signed-requires-2 : tie.Need-signed-requires-2
 signed-requires-2 c κs = short _ (c .natural2 .ensures)
@@ -74,13 +56,9 @@ number-spec =
     tie.close
     (tie.spec
     returns
-    shared-slice-read-if2
-    sub-natural
-    part-natural-start
-    part-natural-end
-    natural-requires
+    (search needs) (search needs) (search needs) (search needs) (search needs)
     signed-requires
     returns-2
-    natural-requires-2
+    (search needs)
     signed-requires-2
     returns-3)

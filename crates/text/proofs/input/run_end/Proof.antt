@@ -18,27 +18,12 @@ Inv-loop s from separators i₀ i = i + run separators (drop i s) ≡ from + run
 abbrev μ-loop : tie.MeasureT-loop
 μ-loop s from separators i₀ i = length s - i
 
-loop-holds : tie.Need-loop-holds Inv-loop μ-loop
-loop-holds c = refl
-
-shared-slice-read-is-of : tie.Need-shared-slice-read-is-of Inv-loop μ-loop
-shared-slice-read-is-of c = omega arith
-
-is-of-requires : tie.Need-is-of-requires Inv-loop μ-loop
-is-of-requires c κs = search needs
-
 returns : tie.Need-returns Inv-loop μ-loop
 returns c =
     let a = c .before .before .before .before .before .before .args in
     let i = c .before .before .before .before .loop .i in
     let other : isOf (a .separators) (getD (a .s .now) i 0) ≡ false = sym (c .before .is-of .ensures) ∙ not-true _ (c .if1 .taken) in
     omega (arith, run-stops (a .separators) (a .s .now) i (omega arith) other)
-
-add-i : tie.Need-add-i Inv-loop μ-loop
-add-i c = omega arith
-
-loop-less : tie.Need-loop-less Inv-loop μ-loop
-loop-less c = omega arith
 
 loop-again : tie.Need-loop-again Inv-loop μ-loop
 loop-again c =
@@ -55,14 +40,9 @@ returns-2 c =
 pub run-end-spec : {M : Type 1} → statement M
 run-end-spec =
     tie.close
-    (tie.spec
-    Inv-loop
-    μ-loop
-    loop-holds
-    shared-slice-read-is-of
-    is-of-requires
+    (tie.spec Inv-loop μ-loop
+    (λ _. refl) (omega arith) (search needs)
     returns
-    add-i
-    loop-less
+    (omega arith) (omega arith)
     loop-again
     returns-2)

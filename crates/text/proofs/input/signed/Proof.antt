@@ -32,17 +32,11 @@ module _ {d : Digits} (n : ℕ) (is : d ≡ Value n) (short : IsShort d) where
   as-positive : {t : Bool} → t ≡ false → Number (toZ w32 n) ≡ signed t d
   as-positive sign = rw (sign, is, plain .exact)
 
-enum-known-digits : tie.Need-enum-known-digits
-enum-known-digits c = search needs
-
 cast-value : tie.Need-cast-value
 cast-value c = record { sfits = omega (arith, below _ (c .before .digits .given .1) (c .before .before .before .pre)) }
 
 sub-t9 : tie.Need-sub-t9
 sub-t9 c = fits (negated _ (c .before .before .digits .given .1) (c .before .before .before .before .pre)) tt
-
-enum-told : tie.Need-enum-told
-enum-told c = search needs
 
 returns : tie.Need-returns
 returns c = as-negative _ (c .before .before .digits .given .1) (c .before .before .before .before .pre) (c .if1 .taken)
@@ -50,9 +44,5 @@ returns c = as-negative _ (c .before .before .digits .given .1) (c .before .befo
 returns-2 : tie.Need-returns-2
 returns-2 c = as-positive _ (c .before .before .digits .given .1) (c .before .before .before .before .pre) (c .if1 .left)
 
-returns-3 : tie.Need-returns-3
-returns-3 c = search needs
-
 pub signed-spec : {M : Type 1} → statement M
-signed-spec =
-    tie.close (tie.spec enum-known-digits cast-value sub-t9 enum-told returns returns-2 returns-3)
+signed-spec = tie.close (tie.spec (search needs) cast-value sub-t9 (search needs) returns returns-2 (λ c. search needs))

@@ -5,20 +5,8 @@ use Rattle.text.proofs.NumberLaws.{digit-bounds}
 use Rattle.text.proofs.input.with_digit.Statement.{statement}
 use Rattle.text.proofs.input.with_digit.Tie as tie
 
-mul-result : tie.Need-mul-result
-mul-result c = search needs
-
 sub-result : tie.Need-sub-result
 sub-result c = omega (arith, digit-bounds (c .args .b) (c .pre .1))
 
-cast-result : tie.Need-cast-result
-cast-result c = search needs
-
-add-result : tie.Need-add-result
-add-result c = search needs
-
-returns : tie.Need-returns
-returns c = search needs
-
 pub with-digit-spec : {M : Type 1} → statement M
-with-digit-spec = tie.close (tie.spec mul-result sub-result cast-result add-result returns)
+with-digit-spec = tie.close (tie.spec (search needs) sub-result (search needs) (search needs) (search needs))

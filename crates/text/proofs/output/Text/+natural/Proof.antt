@@ -37,23 +37,8 @@ abbrev below : ℕ → In 0 kinds.ps
 below t = and 0 kinds.ps (falls 0 kinds.ps _<_ μ-natural t) natural.Pre
 
 module _ (t : ℕ) where
-  natural-cast-digit : lts.Need-cast-digit (push.Asked, push.Learnt, below t, natural.Post) (at t) natural.Post
-  natural-cast-digit c = search needs
-
-  natural-add-digit : lts.Need-add-digit (push.Asked, push.Learnt, below t, natural.Post) (at t) natural.Post
-  natural-add-digit c = search needs
-
-  natural-push-requires : lts.Need-push-requires (push.Asked, push.Learnt, below t, natural.Post) (at t) natural.Post
-  natural-push-requires c κs = search needs
-
   natural-returns : lts.Need-returns (push.Asked, push.Learnt, below t, natural.Post) (at t) natural.Post
   natural-returns c = c .push .ensures ∙ one-digit _ _ (c .before .if1 .taken)
-
-  natural-natural-requires : lts.Need-natural-requires (push.Asked, push.Learnt, below t, natural.Post) (at t) natural.Post
-  natural-natural-requires c κs = search needs
-
-  natural-push-requires-2 : lts.Need-push-requires-2 (push.Asked, push.Learnt, below t, natural.Post) (at t) natural.Post
-  natural-push-requires-2 c κs = search needs
 
   natural-returns-2 : lts.Need-returns-2 (push.Asked, push.Learnt, below t, natural.Post) (at t) natural.Post
   natural-returns-2 c =
@@ -69,10 +54,7 @@ pub +natural-spec : {M : Type 1} → statement M
 )
     (at t)
     natural.Post
-    (natural-cast-digit t)
-    (natural-add-digit t)
-    (natural-push-requires t)
+    (search needs) (search needs) (search needs)
     (natural-returns t)
-    (natural-natural-requires t)
-    (natural-push-requires-2 t)
+    (search needs) (search needs)
     (natural-returns-2 t)

@@ -9,15 +9,9 @@ returns : tie.Need-returns
 unfolding pushed
 returns c = simp (le-ltb _ room (c .if1 .taken))
 
-element-write-longer : tie.Need-element-write-longer
-element-write-longer c = search needs
-
-add-longer : tie.Need-add-longer
-add-longer c = search needs
-
 returns-2 : tie.Need-returns-2
 unfolding pushed
 returns-2 c = simp (lt-ltb _ room (c .if1 .left))
 
 pub push-spec : {M : Type 1} → statement M
-push-spec = tie.close (tie.spec returns element-write-longer add-longer returns-2)
+push-spec = tie.close (tie.spec returns (search needs) (search needs) returns-2)

@@ -29,25 +29,10 @@ with-minus : (t : Text) {u r : Text} {n : ℕ} (z : ℤ) → ltZ z (pos 0) ≡ t
     → u ≡ appended t (ascii "-") → n ≡ natAbs z → r ≡ appended u (decimal n) → r ≡ appended t (signedDecimal z)
 with-minus t z below minus size rest = rw (rest, minus, size, appended-append, signed-below z (ltZ-true below))
 
-slice-aggregate-bytes : tie.Need-slice-aggregate-bytes
-slice-aggregate-bytes c = search needs
-
-bytes-requires : tie.Need-bytes-requires
-bytes-requires c κs = search needs
-
-size-requires : tie.Need-size-requires
-size-requires c κs = search needs
-
-natural-requires : tie.Need-natural-requires
-natural-requires c κs = search needs
-
 cast-natural : tie.Need-cast-natural
 cast-natural c =
     let z = c .before .args .n in
     let f = c .before .fits .n in rw (toZ-ofZ w64 z f) (natural-fits z f (rw (toZ-ofZ w64 z f) at (c .if1 .left)))
-
-natural-requires-2 : tie.Need-natural-requires-2
-natural-requires-2 c κs = search needs
 
 returns : tie.Need-returns
 returns c =
@@ -68,11 +53,8 @@ pub signed-spec : {M : Type 1} → statement M
 signed-spec =
     tie.close
     (tie.spec
-    slice-aggregate-bytes
-    bytes-requires
-    size-requires
-    natural-requires
+    (search needs) (search needs) (λ c κs. search needs) (search needs)
     cast-natural
-    natural-requires-2
+    (search needs)
     returns
     returns-2)
