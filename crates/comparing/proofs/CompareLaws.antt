@@ -40,9 +40,9 @@ use Rattle.sweep.specs.declared.State.{State}
 use Rattle.measuring.specs.declared.Window.{Window}
 use Rattle.measuring.specs.Window.{windowAt}
 use Rattle.measuring.specs.Changes.{BoundedWorst}
-use Rattle.sweep.specs.State.{sideState, IsAfter, CanStep, BoundedState}
-use Rattle.comparing.specs.Comparing.{beginning, reported}
-use Rattle.comparing.proofs.BeginLaws.{begins-after}
+use Rattle.sweep.specs.State.{sideState, IsAfter, CanStep, BoundedState, beginning}
+use Rattle.comparing.specs.Reported.{reported}
+use Rattle.sweep.proofs.BeginLaws.{begins-after}
 
 -- the worse of two is one of them
 overall-bounded : (v w : WorstSoFar) → BoundedWorst v → BoundedWorst w → BoundedWorst (overall v w)

@@ -1,3 +1,2 @@
--- Comparing begins where document 01's sweep does and reports what it lays down.
-pub mod BeginLaws
+-- Comparing makes document 01's steps and reports what it lays down.
 pub mod CompareLaws

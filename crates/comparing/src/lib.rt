@@ -1,14 +1,11 @@
-// Comparing two outlines by a sweep of both: where the sweep begins, its steps, and the comparison. `reporting` has what it reports.
+// Comparing two outlines by a sweep of both: its steps, and the comparison. `reporting` has what it reports.
 pub mod reporting;
 
 use hausdorff::Report;
-use hausdorff::WorstSoFar;
 use measuring::Window;
 use outline::Outline;
-use plane::Corner;
 use reading::corners::next;
 use reading::corners::previous;
-use sweep::SideState;
 use sweep::State;
 ghost use mathlib.Core.Path.{_≡_};
 ghost use Prim.Native.Nat.{_+_, _≤_};
@@ -16,44 +13,7 @@ ghost use Rattle.outline.specs.Convex.{IsOutline};
 ghost use Rattle.outline.specs.Corners.{cornersOf};
 ghost use Rattle.hausdorff.specs.Pair.{both};
 ghost use Rattle.hausdorff.specs.Report.{report};
-ghost use Rattle.hausdorff.specs.Lowest.{LowestLeftmost};
 ghost use Rattle.sweep.specs.State.{IsAfter};
-ghost use Rattle.comparing.specs.Comparing.{isLower, beginning};
-
-// Whether p is lower than q or, at the same height, left of it.
-fn is_lower(p: Corner, q: Corner) -> bool
-    ensures { λ r. ⌜ r ≡ isLower p q ⌝ }
-{
-    if p.y == q.y { p.x < q.x } else { p.y < q.y }
-}
-
-// The number of the lowest corner, of several the leftmost: there the outline's first edge in the angular order starts.
-fn lowest(o: Outline) -> usize
-    requires { ⌜ IsOutline o ⌝ }
-    ensures { λ r. ⌜ LowestLeftmost (cornersOf o) r ⌝ }
-{
-    let n = o.count;
-    let mut found = 0;
-    let mut i = 1;
-    while i < n {
-        if is_lower(o.corners[i], o.corners[found]) {
-            found = i;
-        }
-        i += 1;
-    }
-    found
-}
-
-// One side's part before step 1, where `lowest` is its outline's lowest, leftmost corner.
-fn begin(lowest: usize, count: usize) -> SideState
-    ensures { λ r. ⌜ r ≡ beginning lowest count ⌝ }
-{
-    SideState {
-        support: lowest,
-        remaining: count,
-        worst: WorstSoFar::None,
-    }
-}
 
 // The sweep after `steps` steps. No step copies an outline.
 fn make_steps(a: Outline, b: Outline, steps: u32) -> State
@@ -65,8 +25,8 @@ fn make_steps(a: Outline, b: Outline, steps: u32) -> State
     let n = a.count;
     let m = b.count;
     let mut state = State {
-        a: begin(lowest(a), n),
-        b: begin(lowest(b), m),
+        a: sweep::begin(sweep::lowest(a), n),
+        b: sweep::begin(sweep::lowest(b), m),
     };
     let mut k = 0;
     while k < steps {

@@ -21,7 +21,7 @@ ghost use Rattle.hausdorff.specs.Worst.{overall};
 ghost use Rattle.hausdorff.specs.Report.{orWithin, clearance};
 ghost use Rattle.measuring.specs.Changes.{BoundedWorst};
 ghost use Rattle.sweep.specs.State.{BoundedState};
-ghost use Rattle.comparing.specs.Comparing.{reported};
+ghost use Rattle.comparing.specs.Reported.{reported};
 
 // The one with the greater gap; the first of equals.
 fn worse(w: CornerGap, z: CornerGap) -> CornerGap

@@ -9,6 +9,9 @@
 --     advanced, passed           a side's support corner moves on; that of the side whose edge is next does
 --     changesWorst, withWorst    measuring changes the worst so far of a side; the state measured, both ways
 --     Measurable, BoundedState, Passable    what they ask
+-- Where a sweep begins, for the code alone:
+--     isLower         a corner is lower than another or, at the same height, left of it
+--     beginning       one side's part before step 1
 use Prim.Native.Nat.{ℕ, _+_, _-_, _<_}
 use mathlib.Core.Path.{_≡_}
 use mathlib.Core.Bool.{Bool, cond, not, _&&_, _||_}
@@ -16,10 +19,13 @@ use lib.Dec.{eqb}
 use lib.IntN.{ℤ, pos}
 use lib.ListN.{length, drop}
 use lib.Signed.{ltZ}
+use Rattle.integers.specs.Equal.{eqZ}
+use Rattle.plane.specs.declared.Corner.{Corner}
 use Rattle.plane.specs.Vector.{_⇀_, cross}
 use Rattle.outline.specs.Corners.{next}
 use Rattle.hausdorff.specs.declared.Side.{Side}
 use Rattle.hausdorff.specs.declared.Side.the-variants.{A, B}
+use Rattle.hausdorff.specs.declared.WorstSoFar.the-variants.{None}
 use Rattle.hausdorff.specs.Pair.{Pair, AcceptedPair, stepCount}
 use Rattle.hausdorff.specs.AngularOrder.{angularOrder, own}
 use Rattle.hausdorff.specs.Sweep.{after}
@@ -101,3 +107,9 @@ withWorst a b near-a near-b state = record {
     worst = keep (λ (i : ℕ). i) (state .b .worst) (nearWorst B (b .number) (b .corner) a near-b);
   };
 }
+
+abbrev pub isLower : Corner → Corner → Bool
+isLower p q = cond (eqZ (p .y) (q .y)) (ltZ (p .x) (q .x)) (ltZ (p .y) (q .y))
+
+abbrev pub beginning : ℕ → ℕ → SideState
+beginning lowest count = record { support = lowest; remaining = count; worst = None }

@@ -1,12 +1,17 @@
-// The sweep of two outlines: its state and a step. `hausdorff` defines what they are.
+// The sweep of two outlines: its state, a step, and where it begins. `hausdorff` defines what they are.
 use hausdorff::Side;
 use hausdorff::WorstSoFar;
 use measuring::Near;
 use measuring::Window;
+use outline::Outline;
+use plane::Corner;
 use reading::corners::next;
 ghost use mathlib.Core.Path.{_≡_};
 ghost use Prim.Native.Nat.{suc, _<_};
-ghost use Rattle.sweep.specs.State.{IsAfter, CanStep};
+ghost use Rattle.outline.specs.Convex.{IsOutline};
+ghost use Rattle.outline.specs.Corners.{cornersOf};
+ghost use Rattle.hausdorff.specs.Lowest.{LowestLeftmost};
+ghost use Rattle.sweep.specs.State.{IsAfter, CanStep, isLower, beginning};
 ghost use Rattle.sweep.specs.State.{Measurable, BoundedState, Passable, bIsNext, advanced, passed, changesWorst, withWorst};
 
 // One outline's part of the sweep: its support corner (document 01: the corner in touch), how many of its edges are still to be passed,
@@ -130,5 +135,40 @@ impl State {
         }
         let measured = self.measured(a, b, near_a, near_b);
         measured.passed(a, b)
+    }
+}
+
+// Whether p is lower than q or, at the same height, left of it.
+fn is_lower(p: Corner, q: Corner) -> bool
+    ensures { λ r. ⌜ r ≡ isLower p q ⌝ }
+{
+    if p.y == q.y { p.x < q.x } else { p.y < q.y }
+}
+
+// The number of the lowest corner, of several the leftmost: there the outline's first edge in the angular order starts.
+pub fn lowest(o: Outline) -> usize
+    requires { ⌜ IsOutline o ⌝ }
+    ensures { λ r. ⌜ LowestLeftmost (cornersOf o) r ⌝ }
+{
+    let n = o.count;
+    let mut found = 0;
+    let mut i = 1;
+    while i < n {
+        if is_lower(o.corners[i], o.corners[found]) {
+            found = i;
+        }
+        i += 1;
+    }
+    found
+}
+
+// One side's part before step 1, where `lowest` is its outline's lowest, leftmost corner.
+pub fn begin(lowest: usize, count: usize) -> SideState
+    ensures { λ r. ⌜ r ≡ beginning lowest count ⌝ }
+{
+    SideState {
+        support: lowest,
+        remaining: count,
+        worst: WorstSoFar::None,
     }
 }

@@ -15,7 +15,7 @@ decided :
     {p q : Parts} (m n : ℕ) (o : Order) {w : Order} → p ≡ record { high = m / 2 ^ 32; low = m % 2 ^ 32 } →
     q ≡ record { high = n / 2 ^ 32; low = n % 2 ^ 32 } → w ≡ order (p .high) (q .high) → w ≡ o →
     then o (order (p .low) (q .low)) ≡ order m n
-decided m n o first second e told = cc (order-by-parts m n)
+decided m n o first second e told = rw (← told, e, first, second, ← order-by-parts m n)
 
 returns : tie.Need-returns
 returns c =

@@ -1,6 +1,5 @@
 -- `reading::checks::check_edge` takes the edge out of the list once and tests the corners against it in order.
 use borrow.Author.Needs.{needs}
-use mathlib.Core.Bool.{Bool}
 use mathlib.Core.List.{List}
 use mathlib.Core.Path.{_≡_}
 use native.Mathlib.Omega.{arith}
@@ -13,17 +12,12 @@ use Rattle.reading.specs.declared.checks.Edge.{Edge}
 use Rattle.outline.specs.declared.Fault.the-variants.{NotLeft}
 use Rattle.outline.specs.Convex.{AllInRange}
 use Rattle.outline.specs.Corners.{corners, corner}
-use Rattle.reading.specs.Edge.{edgeOf, isNotLeftOf}
+use Rattle.reading.specs.Edge.{edgeOf}
 use Rattle.outline.specs.Reading.{isNotLeft, notLeftOf}
 use Rattle.outline.proofs.ChecksLaws.{Testing, test-start, test-on, test-found, test-none}
 use Rattle.outline.proofs.CornersLaws.{next-below}
 use Rattle.reading.proofs.checks.check_edge.Statement.{statement}
 use Rattle.reading.proofs.checks.check_edge.Tie as tie
-
--- corner c is decided by what `is_not_left` answers of the edge and the corner that were taken out of the list
-decided : (cs : List Corner) (e c : ℕ) {edge : Edge} {v : Corner} {r t : Bool}
-    → edge ≡ edgeOf cs e → v ≡ corner cs c → r ≡ isNotLeftOf edge c v → r ≡ t → isNotLeft cs e c ≡ t
-decided cs e c took read answer is = cc
 
 -- what `is_not_left` asks of the edge
 in-reach : (cs : List Corner) (e : ℕ) {edge : Edge}
@@ -52,15 +46,15 @@ is-not-left-requires c κs =
 returns : tie.Need-returns Inv-loop μ-loop
 unfolding notLeftOf
 returns c =
-    test-found (c .before .before .before .before .loop .inv) (omega arith) (decided (corners _) _ _
-    (c .before .before .before .before .before .take-edge .ensures) (c .before .before .corner .ensures)
-    (c .before .is-not-left .ensures) (c .if1 .taken))
+    test-found (c .before .before .before .before .loop .inv) (omega arith)
+    (rw (c .before .is-not-left .ensures, c .before .before .before .before .before .take-edge .ensures, c .before .before .corner .ensures)
+    at (c .if1 .taken))
 
 loop-again : tie.Need-loop-again Inv-loop μ-loop
 loop-again c =
-    test-on (c .before .before .before .before .loop .inv) (omega arith) (decided (corners _) _ _
-    (c .before .before .before .before .before .take-edge .ensures) (c .before .before .corner .ensures)
-    (c .before .is-not-left .ensures) (c .if1 .left))
+    test-on (c .before .before .before .before .loop .inv) (omega arith)
+    (rw (c .before .is-not-left .ensures, c .before .before .before .before .before .take-edge .ensures, c .before .before .corner .ensures)
+    at (c .if1 .left))
 
 returns-2 : tie.Need-returns-2 Inv-loop μ-loop
 unfolding notLeftOf

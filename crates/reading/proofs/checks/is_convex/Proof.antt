@@ -8,7 +8,6 @@ use native.Mathlib.Omega.{arith}
 use Prim.Native.Nat.{ℕ, suc, _+_, _-_, _<_}
 use lib.ListN.{length}
 use Rattle.plane.specs.declared.Corner.{Corner}
-use Rattle.plane.specs.declared.Vector.{Vector}
 use Rattle.plane.specs.Range.{InRange}
 use Rattle.plane.specs.Vector.{_⇀_}
 use Rattle.plane.proofs.Range.{span-difference}
@@ -25,12 +24,10 @@ Inv-loop s n from run i₀ i = Passing (keepsLeftAt (corners s)) (length (corner
 abbrev μ-loop : tie.MeasureT-loop
 μ-loop s n from run i₀ i = n - i
 
--- corner i + 2 is decided by what `keeps_left` answers of the corners that were taken out of the list
-decided : (cs : List Corner) (i : ℕ) {from second p q v : Corner} {run : Vector} {r t : Bool}
-    → from ≡ corner cs 0 → second ≡ corner cs 1 → run ≡ from ⇀ second → p ≡ corner cs i → q ≡ corner cs (i + 1) → v ≡ corner cs (i + 2)
-    → r ≡ keepsLeft from run p q v → r ≡ t → keepsLeftAt cs i ≡ t
-decided cs i is-from is-second is-run is-p is-q is-v answer is =
-    let next : i + 1 ≡ suc i = omega arith in let after : i + 2 ≡ suc (suc i) = omega arith in cc
+-- the code's i + 1 and i + 2
+by-number : (cs : List Corner) (i : ℕ) {t : Bool}
+    → keepsLeft (corner cs 0) (corner cs 0 ⇀ corner cs 1) (corner cs i) (corner cs (i + 1)) (corner cs (i + 2)) ≡ t → keepsLeftAt cs i ≡ t
+by-number cs i is = let next : i + 1 ≡ suc i = omega arith in let after : i + 2 ≡ suc (suc i) = omega arith in rw (next, after) at is
 
 -- a corner that was taken out of the list is in range
 known : (cs : List Corner) (i : ℕ) {p : Corner} → AllInRange cs → p ≡ corner cs i → i < length cs → InRange p
@@ -58,17 +55,31 @@ unfolding isConvex
 returns-2 c =
     let taken = c .before .before in let begun = taken .before .before .before .before .before in
     pass-stop (c .before .before .before .before .before .before .loop .inv) (omega arith)
-    (decided (corners _) _ (begun .before .before .corner .ensures) (begun .before .corner2 .ensures) (begun .difference .ensures)
-    (taken .before .before .corner3 .ensures) (taken .before .corner4 .ensures) (taken .corner5 .ensures) (c .before .keeps-left .ensures)
-    (not-true (c .before .keeps-left .result) (c .if2 .taken)))
+    (by-number (corners _) _ (not-true _
+    (rw (
+      c .before .keeps-left .ensures,
+      begun .difference .ensures,
+      begun .before .before .corner .ensures,
+      begun .before .corner2 .ensures,
+      taken .before .before .corner3 .ensures,
+      taken .before .corner4 .ensures,
+      taken .corner5 .ensures,
+    ) at (c .if2 .taken))))
 
 loop-again : tie.Need-loop-again Inv-loop μ-loop
 loop-again c =
     let taken = c .before .before in let begun = taken .before .before .before .before .before in
     pass-on (c .before .before .before .before .before .before .loop .inv) (omega arith)
-    (decided (corners _) _ (begun .before .before .corner .ensures) (begun .before .corner2 .ensures) (begun .difference .ensures)
-    (taken .before .before .corner3 .ensures) (taken .before .corner4 .ensures) (taken .corner5 .ensures) (c .before .keeps-left .ensures)
-    (not-false (c .before .keeps-left .result) (c .if2 .left)))
+    (by-number (corners _) _ (not-false _
+    (rw (
+      c .before .keeps-left .ensures,
+      begun .difference .ensures,
+      begun .before .before .corner .ensures,
+      begun .before .corner2 .ensures,
+      taken .before .before .corner3 .ensures,
+      taken .before .corner4 .ensures,
+      taken .corner5 .ensures,
+    ) at (c .if2 .left))))
 
 returns-3 : tie.Need-returns-3 Inv-loop μ-loop
 unfolding isConvex

@@ -32,10 +32,9 @@ use Rattle.hausdorff.specs.Pair.{Pair, Polygons}
 use Rattle.hausdorff.specs.Sweep.{begin, steps}
 use Rattle.hausdorff.specs.Lowest.{LowestLeftmost}
 use Rattle.hausdorff.proofs.LowestLaws.{begins-lowest}
 use Rattle.sweep.specs.declared.State.{State}
-use Rattle.sweep.specs.State.{sideState, IsAfter}
-use Rattle.comparing.specs.Comparing.{isLower}
+use Rattle.sweep.specs.State.{sideState, IsAfter, isLower}
 use Rattle.sweep.proofs.NextEdge.{begin-to-come}
 
 abbrev pub NotAfter : Corner → Corner → Type 0
 NotAfter p q = (p .y <ℤ q .y) ⊎ ((p .y ≡ q .y) × (p .x ≤ℤ q .x))

@@ -1,4 +1,4 @@
--- `comparing::lowest` passes over the corners and keeps the lowest, of several the leftmost.
+-- `sweep::lowest` passes over the corners and keeps the lowest, of several the leftmost.
 use borrow.Author.Needs.{needs}
 use mathlib.Core.Path.{_≡_, sym, _∙_}
 use mathlib.Core.Logic.{⊎-elim}
@@ -7,9 +7,9 @@ use Prim.Native.Nat.{_-_}
 use lib.ListN.{length}
 use Rattle.outline.specs.Corners.{most, cornersOf}
 use Rattle.outline.proofs.HeldLaws.{length-cornersOf, length-mapped}
-use Rattle.comparing.proofs.BeginLaws.{Searching, search-start, search-lower, search-on, search-end}
-use Rattle.comparing.proofs.lowest.Statement.{statement}
-use Rattle.comparing.proofs.lowest.Tie as tie
+use Rattle.sweep.proofs.BeginLaws.{Searching, search-start, search-lower, search-on, search-end}
+use Rattle.sweep.proofs.lowest.Statement.{statement}
+use Rattle.sweep.proofs.lowest.Tie as tie
 
 abbrev Inv-loop : tie.InvT-loop
 Inv-loop o n found₀ i₀ found i = (n ≡ length (cornersOf o)) × Searching (cornersOf o) found i
