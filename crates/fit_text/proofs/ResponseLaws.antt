@@ -22,11 +22,10 @@ use Rattle.hausdorff.specs.Call.{comparison, IsComparison, refused-a, refused-b
 use Rattle.hausdorff.proofs.CallLaws.{is-comparison}
 use Rattle.fit_lines.specs.Lines.{comparisonText}
 use Rattle.fit_lines.proofs.LengthLaws.{refusal-fits, done-fits}
-use Rattle.fit_text.specs.declared.parsing.Outcome.{Outcome}
-use Rattle.fit_text.specs.declared.parsing.Outcome.the-variants.{Compared, Unreadable}
+use Rattle.fit_text.specs.declared.parsing.Outcome.the-variants.{Unreadable}
 use Rattle.fit_text.specs.Input.{Given, Numbers, TooMany, Unreadable as GivenUnreadable}
 use Rattle.fit_text.specs.Input.{outline, allowance, tooMany, withB, withA, outcome}
-use Rattle.fit_text.specs.Response.{outcomeText, mostBytes, judged, response, LaidDown, unreadable, refused, done}
+use Rattle.fit_text.specs.Response.{outcomeText, mostBytes, response, LaidDown, unreadable, refused, done}
 
 -- an accepted pair has at most 512 edges, so the law of comparing says that it is done
 never-spent : (s t : List ℤ) (p : SpentReport) → ¬ (comparison s t allowance ≡ Spent p)

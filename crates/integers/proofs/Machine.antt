@@ -4,7 +4,7 @@
 --     local w z, i32, i64      z as a local or field of the width holds it: written as bits and read back
 --     Exact b z e             the machine's expression e is exactly the whole number z, which is at most b in size
 --     value, field            an expression starts from a known bound, from a value of its type
---     stored                  it is local in a local, perhaps wider: so a widening cast too
+--     stored                  it is kept in a local, perhaps wider: so a widening cast too
 --     plus, minus, times      the operations
 --     fits                    it ends: the result fits its type. That it is z is `stored w r tt .exact`
 --     size-fits               a number that is not negative is cast to an unsigned type

@@ -1,6 +1,6 @@
 -- How large differences and products are.
 --     span-⇀, span-difference     the vector between two points in range is within reach
---     atMost-side                 document 01: a side number of points in range is at productLimit 2,048,000,000 in size
+--     atMost-side                 document 01: a side number of points in range is at most 2,048,000,000 in size
 --     square-fits                 so its square fits 64 bits
 use mathlib.Core.Path.{_≡_}
 use lib.IntN.{_*ℤ_}

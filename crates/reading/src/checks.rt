@@ -168,7 +168,7 @@ fn keeps_left(from: Corner, run: Vector, p: Corner, q: Corner, v: Corner) -> boo
 }
 
 // Whether the corners are strictly convex, in one pass: `check_convex` takes linear time where they are, and every accepted outline is.
-// It is right because any three corners, in number order, turn left where each corner keeps left (`proofs/TurnsLaws.antt`).
+// It is right because any three corners, in number order, turn left where each corner keeps left (`outline/proofs/TurnsLaws.antt`).
 fn is_convex(s: &[i32]) -> bool
     requires { ⌜ AllInRange (corners (now s)) ⌝ }
     ensures { λ r. ⌜ r ≡ isConvex (corners (now (s .entry))) ⌝ }

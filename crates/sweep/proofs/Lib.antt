@@ -1,4 +1,4 @@
--- The code of the sweep makes document 01's steps, in the order of the argument.
+-- The code of the sweep begins where document 01's sweep does and makes its steps, in the order of the argument.
 pub mod NextEdge
 pub mod BeginLaws
 pub mod StepLaws
