@@ -9,12 +9,14 @@ use Rattle.measuring.proofs.measure.Tie as tie
 returns : tie.Need-returns
 returns c =
     let given = c .before .before .args in
-    sym (keeps-old (given .side) (given .number) (given .v) (given .w) (given .f) (given .old) (not-true _ (rw (c .before .changes .ensures) at (c .if1 .taken))))
+    sym (keeps-old (given .side) (given .number) (given .v) (given .w) (given .f) (given .old)
+    (not-true _ (rw (c .before .changes .ensures) at (c .if1 .taken))))
 
 returns-2 : tie.Need-returns-2
 returns-2 c =
     let changed = c .before .before in let given = changed .before .before .args in
-    let taken = takes-new (given .side) (given .number) (given .v) (given .w) (given .f) (given .old) (not-false _ (rw (changed .before .changes .ensures) at (changed .if1 .left))) in
+    let taken = takes-new (given .side) (given .number) (given .v) (given .w) (given .f) (given .old)
+    (not-false _ (rw (changed .before .changes .ensures) at (changed .if1 .left))) in
     rw (taken, c .named .ensures, c .before .values .ensures)
 
 pub measure-spec : {M : Type 1} → statement M
