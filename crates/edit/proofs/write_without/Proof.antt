@@ -49,9 +49,8 @@ corner-requires c κs = omega (arith, kept-≤ (c .before .before .before .befor
 
 put-corner-requires : tie.Need-put-corner-requires Inv-loop μ-loop
 put-corner-requires c κs =
-    let able = c .before .before .before .before .before .before .pre in
-    omega
-    (arith, room able (c .before .before .before .before .loop .i) (omega arith) (c .before .before .before .before .loop .inv .1), count able)
+    let able = c .before .before .before .before .before .before .pre in let turn = c .before .before .before .before .loop in
+    omega (arith, room able (turn .i) (omega arith) (turn .inv .1), count able)
 
 loop-again : tie.Need-loop-again Inv-loop μ-loop
 loop-again c =

@@ -17,7 +17,8 @@ held-requires : tie.Need-held-requires Inv-loop μ-loop
 held-requires c κs = rw (c .respond .ensures .0) (held-text _ (c .respond .ensures .1))
 
 add-from : tie.Need-add-from Inv-loop μ-loop
-add-from c = omega (arith, c .before .before .before .case-end .ensures, c .before .before .before .before .before .before .before .good .0 .1)
+add-from c =
+    let case = c .before .before .before in omega (arith, case .case-end .ensures, case .before .before .before .before .good .0 .1)
 
 pub respond-each-spec : {M : Type 1} → statement M
 respond-each-spec =

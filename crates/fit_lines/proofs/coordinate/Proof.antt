@@ -14,7 +14,8 @@ unfolding coordinateText
 returns c =
     let start = c .before .before .before .before .before .before in
     let space = c .before .before .before .before .bytes .ensures in
-    let upper = joined _ _ _ space (by-case signedDecimal _ (sym (toZ-ofZ (start .fits .upper))) (c .before .before .before .signed .ensures)) in
+    let number = by-case signedDecimal _ (sym (toZ-ofZ (start .fits .upper))) (c .before .before .before .signed .ensures) in
+    let upper = joined _ _ _ space number in
     let bar = joined _ _ _ upper (c .before .bytes2 .ensures) in
     joined _ _ _ bar (c .natural .ensures)
 

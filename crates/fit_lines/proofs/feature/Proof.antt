@@ -11,11 +11,13 @@ returns c = by-case featureText _ (c .before .before .enum-told .given .1) (c .b
 
 returns-2 : tie.Need-returns-2
 returns-2 c =
-    by-case featureText _ (c .before .before .before .before .feature .given .1) (joined _ _ _ (c .before .bytes2 .ensures) (c .natural .ensures))
+    by-case featureText _ (c .before .before .before .before .feature .given .1)
+    (joined _ _ _ (c .before .bytes2 .ensures) (c .natural .ensures))
 
 returns-3 : tie.Need-returns-3
 returns-3 c =
-    by-case featureText _ (c .before .before .before .before .feature2 .given .1) (joined _ _ _ (c .before .bytes3 .ensures) (c .natural2 .ensures))
+    by-case featureText _ (c .before .before .before .before .feature2 .given .1)
+    (joined _ _ _ (c .before .bytes3 .ensures) (c .natural2 .ensures))
 
 pub feature-spec : {M : Type 1} → statement M
 feature-spec =

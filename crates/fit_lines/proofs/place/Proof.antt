@@ -11,13 +11,15 @@ returns c = by-case placeText _ (c .enum-told .given .1) (appended-nil _)
 
 returns-2 : tie.Need-returns-2
 returns-2 c =
-    by-case placeText _ (c .before .before .before .before .place .given .1) (joined _ _ _ (c .before .bytes .ensures) (c .natural .ensures))
+    by-case placeText _ (c .before .before .before .before .place .given .1)
+    (joined _ _ _ (c .before .bytes .ensures) (c .natural .ensures))
 
 returns-3 : tie.Need-returns-3
 returns-3 c =
     let edge = joined _ _ _ (c .before .before .before .before .bytes2 .ensures) (c .before .before .before .natural2 .ensures) in
     let space = joined _ _ _ edge (c .before .bytes3 .ensures) in
-    by-case placeText _ (c .before .before .before .before .before .before .before .place2 .given .1) (joined _ _ _ space (c .natural3 .ensures))
+    by-case placeText _ (c .before .before .before .before .before .before .before .place2 .given .1)
+    (joined _ _ _ space (c .natural3 .ensures))
 
 pub place-spec : {M : Type 1} → statement M
 place-spec =

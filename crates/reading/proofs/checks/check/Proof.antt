@@ -18,8 +18,8 @@ unfolding check
 returns-2 c =
     let count = sym (c .before .before .before .before .before .before .check-count .ensures)
     ∙ c .before .before .before .before .enum-told .given .1 in
-    sym
-    (orElse-stops _ (orElse-stops _ (orElse-goes-on count (sym (c .before .before .before .check-range .ensures) ∙ c .before .f2 .given .1))))
+    let range = sym (c .before .before .before .check-range .ensures) ∙ c .before .f2 .given .1 in
+    sym (orElse-stops _ (orElse-stops _ (orElse-goes-on count range)))
 
 returns-3 : tie.Need-returns-3
 unfolding check
