@@ -1,14 +1,14 @@
 // The public calls. Each may be handed any list of any numbers: it does its own checking and has no `requires`.
 use hausdorff::Comparison;
-use hausdorff::Report;
 use nearest::NearestAnswer;
-use outline::Check;
-use outline::Fault;
+use nearest::POINT_OUT_OF_RANGE;
+use outline::Place;
 use outline::Reading;
+use outline::Refusal;
 use outline::RefusedSide;
+use outline::Side;
 use outline::Verdict;
 use plane::Corner;
-use reading::refusals;
 ghost use mathlib.Core.Path.{_≡_};
 ghost use Rattle.outline.specs.declared.RefusedSide.the-variants.{NoSide};
 ghost use Rattle.outline.specs.Reading.{reading};
@@ -30,8 +30,8 @@ pub fn remove_corner(s: &[i32], k: usize, out: &mut [i32]) -> Verdict
     ensures answer { λ r. ⌜ r ≡ removalVerdict (now (s .entry)) k (now (out .entry)) ⌝ }
     ensures list { λ _. ⌜ now (out .exit) ≡ listAfter (now (s .entry)) k (now (out .entry)) ⌝ }
 {
-    if let Check::Failed(f) = edit::check_removal(s, k, out.len()) {
-        return Verdict::Refused(refusals::refusal(RefusedSide::NoSide, f));
+    if let Verdict::Refused(refusal) = edit::check_removal(s, k, out.len()) {
+        return Verdict::Refused(refusal);
     }
     edit::write_without(s, k, out);
     Verdict::Taken
@@ -48,8 +48,11 @@ pub fn nearest_point(v: Corner, s: &[i32]) -> NearestAnswer
         return NearestAnswer::Refused(refusal);
     }
     if !plane::in_range(v) {
-        let fault = Fault::PointOutOfRange;
-        return NearestAnswer::Refused(refusals::refusal(RefusedSide::NoSide, fault));
+        return NearestAnswer::Refused(Refusal {
+            number: POINT_OUT_OF_RANGE,
+            side: RefusedSide::NoSide,
+            place: Place::Nowhere,
+        });
     }
     NearestAnswer::Found(projection::nearest(reading.outline, v))
 }
@@ -61,18 +64,15 @@ pub fn compare(a: &[i32], b: &[i32], allowance: u32) -> Comparison
     ensures answer { λ r. ⌜ r ≡ comparison (now (a .entry)) (now (b .entry)) allowance ⌝ }
     ensures law { λ r. ⌜ IsComparison (now (a .entry)) (now (b .entry)) allowance r ⌝ }
 {
-    let reading_a = reading::read(a, RefusedSide::A);
+    let reading_a = reading::read(a, RefusedSide::Of(Side::A));
     let verdict_a = reading_a.verdict;
     if let Verdict::Refused(refusal) = verdict_a {
         return Comparison::Refused(refusal);
     }
-    let reading_b = reading::read(b, RefusedSide::B);
+    let reading_b = reading::read(b, RefusedSide::Of(Side::B));
     let verdict_b = reading_b.verdict;
     if let Verdict::Refused(refusal) = verdict_b {
         return Comparison::Refused(refusal);
     }
-    match comparing::compare(reading_a.outline, reading_b.outline, allowance) {
-        Report::Spent(spent) => Comparison::Spent(spent),
-        Report::Done(done) => Comparison::Done(done),
-    }
+    Comparison::Reported(comparing::compare(reading_a.outline, reading_b.outline, allowance))
 }

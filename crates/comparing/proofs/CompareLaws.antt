@@ -1,7 +1,7 @@
 -- Comparing makes document 01's steps and reports document 01's report.
 --     answer-positive      the gap of an answer has a lower number above 0
 --     stepsMade            the steps that are made: all N, or as many as are allowed
---     reported-after       what is reported after them is document 01's report
+--     reportOf-after       what is reported after them is document 01's report
 --     pairOf               the pair of two outlines' values
 --     window-read          corners read from a value, around one of them, are what a step sees there
 --     Neighbours           a corner's number and those on either side are below the count
@@ -23,14 +23,14 @@ use Rattle.plane.specs.declared.Corner.{Corner}
 use Rattle.outline.specs.declared.Outline.{Outline}
 use Rattle.outline.specs.Convex.{IsOutline}
 use Rattle.outline.specs.Corners.{corner, next, previous, most, cornersOf}
-use Rattle.outline.proofs.Acceptance.{accepted-polygon}
+use Rattle.outline.proofs.EdgeLaws.{accepted-polygon}
 use Rattle.outline.proofs.HeldLaws.{length-cornersOf, cornersOf-corner}
 use Rattle.outline.proofs.CornersLaws.{before-below, after-below}
-use Rattle.hausdorff.specs.declared.Side.{Side}
-use Rattle.hausdorff.specs.declared.Side.the-variants.{A, B}
+use Rattle.outline.specs.declared.Side.{Side}
+use Rattle.outline.specs.declared.Side.the-variants.{A, B}
 use Rattle.hausdorff.specs.declared.WorstSoFar.{WorstSoFar}
 use Rattle.hausdorff.specs.declared.WorstSoFar.the-variants.{None, Worst}
-use Rattle.hausdorff.specs.declared.Report.the-variants.{Spent as ReportSpent, Done as ReportDone}
+use Rattle.hausdorff.specs.declared.Report.the-variants as Report
 use Rattle.hausdorff.specs.Pair.{Pair, AcceptedPair, both, stepCount}
 use Rattle.hausdorff.specs.Worst.{overall}
 use Rattle.hausdorff.specs.Report.{orWithin, spent, done, report}
@@ -41,7 +41,7 @@ use Rattle.measuring.specs.declared.Window.{Window}
 use Rattle.measuring.specs.Window.{windowAt}
 use Rattle.measuring.specs.Changes.{BoundedWorst}
 use Rattle.sweep.specs.State.{sideState, IsAfter, CanStep, BoundedState, beginning}
-use Rattle.comparing.specs.Reported.{reported}
+use Rattle.comparing.specs.ReportOf.{reportOf}
 use Rattle.sweep.proofs.BeginLaws.{begins-after}
 
 -- the worse of two is one of them
@@ -55,29 +55,32 @@ overall-bounded (Worst v) (Worst w) of-v of-w = go (isLess (v .gap) (w .gap))
     go false = of-v
 
 -- within, the gap is 0/1
-or-within-positive : (first : Corner) (w : WorstSoFar) → BoundedWorst w → 0 < orWithin first w .gap .lower
-or-within-positive first None bounded = omega arith
-or-within-positive first (Worst w) bounded = bounded .lower-positive
+orWithin-positive : (first : Corner) (w : WorstSoFar) → BoundedWorst w → 0 < orWithin first w .gap .lower
+orWithin-positive first None bounded = omega arith
+orWithin-positive first (Worst w) bounded = bounded .lower-positive
 
 -- the worst of both sides is bounded where each side's is
 pub answer-positive : (state : State) (first : Corner) → BoundedState state
     → 0 < orWithin first (overall (state .a .worst) (state .b .worst)) .gap .lower
 answer-positive state first bounded =
     let worst-a = state .a .worst in let worst-b = state .b .worst in
-    or-within-positive first (overall worst-a worst-b) (overall-bounded worst-a worst-b (bounded .bounded-a) (bounded .bounded-b))
+    orWithin-positive first (overall worst-a worst-b)
+    (overall-bounded worst-a worst-b (bounded .bounded-a) (bounded .bounded-b))
 
 abbrev pub stepsMade : ℕ → ℕ → ℕ
 stepsMade total allowance = cond (ltb allowance total) allowance total
 
 -- spent if the allowance is below N, otherwise done
-pub reported-after : (pair : Pair) (allowance : ℕ) (state : State) → IsAfter pair (stepsMade (stepCount pair) allowance) state
-    → reported state (stepsMade (stepCount pair) allowance) (ltb allowance (stepCount pair)) (corner (pair A) 0) ≡ report pair allowance
+pub reportOf-after : (pair : Pair) (allowance : ℕ) (state : State)
+    → IsAfter pair (stepsMade (stepCount pair) allowance) state
+    → reportOf state (stepsMade (stepCount pair) allowance) (ltb allowance (stepCount pair)) (corner (pair A) 0)
+    ≡ report pair allowance
 unfolding report
-reported-after pair allowance state = go (ltb allowance (stepCount pair))
+reportOf-after pair allowance state = go (ltb allowance (stepCount pair))
   where
     go : (t : Bool) → IsAfter pair (cond t allowance (stepCount pair)) state
-        → reported state (cond t allowance (stepCount pair)) t (corner (pair A) 0)
-        ≡ cond t (ReportSpent (spent pair allowance)) (ReportDone (done pair))
+        → reportOf state (cond t allowance (stepCount pair)) t (corner (pair A) 0)
+        ≡ cond t (Report.Spent (spent pair allowance)) (Report.Done (done pair))
     go true is = rw (is .support A, is .support B, is .worst A, is .worst B)
     go false is = rw (is .worst A, is .worst B)
 
@@ -85,27 +88,27 @@ abbrev pub pairOf : Outline → Outline → Pair
 pairOf a b = both (cornersOf a) (cornersOf b)
 
 -- the corners are in the places of their numbers
-pub window-read : (o : Outline) {i farbefore before after farafter : ℕ} → o .count ≡ length (cornersOf o)
-    → i < o .count → before ≡ previous (o .count) i → farbefore ≡ previous (o .count) before → after ≡ next (o .count) i
-    → farafter ≡ next (o .count) after
+pub window-read : (o : Outline) {i earlier before after later : ℕ} → o .count ≡ length (cornersOf o)
+    → i < o .count → before ≡ previous (o .count) i → earlier ≡ previous (o .count) before → after ≡ next (o .count) i
+    → later ≡ next (o .count) after
     → _≡_ {A = Window} (record {
       count = o .count;
       number = i;
-      farbefore = corner (o .corners) farbefore;
+      earlier = corner (o .corners) earlier;
       before = corner (o .corners) before;
       corner = corner (o .corners) i;
       after = corner (o .corners) after;
-      farafter = corner (o .corners) farafter;
+      later = corner (o .corners) later;
     }) (windowAt (cornersOf o) i)
-window-read o {i} {farbefore} {before} {after} {farafter} counted known before-is farbefore-is after-is farafter-is =
+window-read o {i} {earlier} {before} {after} {later} counted known before-is earlier-is after-is later-is =
     let read : (j : ℕ) → j < o .count → corner (cornersOf o) j ≡ corner (o .corners) j = cornersOf-corner o in
     cc (
       counted,
       read i known,
       read before (before-below before-is known),
       read after (after-below after-is known),
-      read farbefore (before-below farbefore-is (before-below before-is known)),
-      read farafter (after-below farafter-is (after-below after-is known)),
+      read earlier (before-below earlier-is (before-below before-is known)),
+      read later (after-below later-is (after-below after-is known)),
     )
 
 pub record Neighbours (n i : ℕ) : Type 0 where
@@ -210,9 +213,10 @@ module _ {a b : Outline} (outline-a : IsOutline a) (outline-b : IsOutline b) (pl
     (places-b : length (b .corners) ≡ most) (allowance : ℕ) {steps : ℕ} (chosen : steps ≡ stepsMade (a .count + b .count) allowance) where
   -- the counts together are N, and A's first place has its corner 0
   pub compare-reports : {state : State} → IsAfter (pairOf a b) steps state
-      → reported state steps (ltb allowance (a .count + b .count)) (corner (a .corners) 0) ≡ report (pairOf a b) allowance
+      → reportOf state steps (ltb allowance (a .count + b .count)) (corner (a .corners) 0)
+      ≡ report (pairOf a b) allowance
   compare-reports {state} is-after =
       let counted-a = outline-counted outline-a places-a in
       let total : a .count + b .count ≡ stepCount (pairOf a b) = omega (arith, counted-a, outline-counted outline-b places-b) in
       rw (chosen, total, ← cornersOf-corner a 0 (omega (arith, counted-a, outline-a .accepted .at-least)))
-      (reported-after (pairOf a b) allowance state (rw (chosen, total) at is-after))
+      (reportOf-after (pairOf a b) allowance state (rw (chosen, total) at is-after))

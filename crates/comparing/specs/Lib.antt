@@ -1,2 +1,2 @@
 -- What the code of comparing needs beside the definitions of `hausdorff`.
-pub mod Reported
+pub mod ReportOf

@@ -25,8 +25,8 @@ fn make_steps(a: Outline, b: Outline, steps: u32) -> State
     let n = a.count;
     let m = b.count;
     let mut state = State {
-        a: sweep::begin(sweep::lowest(a), n),
-        b: sweep::begin(sweep::lowest(b), m),
+        a: sweep::beginning(sweep::lowest(a), n),
+        b: sweep::beginning(sweep::lowest(b), m),
     };
     let mut k = 0;
     while k < steps {
@@ -36,11 +36,11 @@ fn make_steps(a: Outline, b: Outline, steps: u32) -> State
         let window_a = Window {
             count: n,
             number: i,
-            farbefore: a.corners[previous(n, before_a)],
+            earlier: a.corners[previous(n, before_a)],
             before: a.corners[before_a],
             corner: a.corners[i],
             after: a.corners[after_a],
-            farafter: a.corners[next(n, after_a)],
+            later: a.corners[next(n, after_a)],
         };
         let j = state.b.support;
         let before_b = previous(m, j);
@@ -48,11 +48,11 @@ fn make_steps(a: Outline, b: Outline, steps: u32) -> State
         let window_b = Window {
             count: m,
             number: j,
-            farbefore: b.corners[previous(m, before_b)],
+            earlier: b.corners[previous(m, before_b)],
             before: b.corners[before_b],
             corner: b.corners[j],
             after: b.corners[after_b],
-            farafter: b.corners[next(m, after_b)],
+            later: b.corners[next(m, after_b)],
         };
         state = state.step(window_a, window_b);
         k += 1;
@@ -70,5 +70,5 @@ pub fn compare(a: Outline, b: Outline, allowance: u32) -> Report
     let is_spent = allowance < total;
     let steps = if is_spent { allowance } else { total };
     let state = make_steps(a, b, steps);
-    reporting::report(state, steps, is_spent, a.corners[0])
+    reporting::report_of(state, steps, is_spent, a.corners[0])
 }

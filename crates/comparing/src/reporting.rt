@@ -2,7 +2,6 @@
 use hausdorff::CornerGap;
 use hausdorff::Done;
 use hausdorff::Report;
-use hausdorff::Side;
 use hausdorff::Spent;
 use hausdorff::SupportCorners;
 use hausdorff::WorstSoFar;
@@ -10,6 +9,7 @@ use integers::fraction;
 use integers::fraction::Fraction;
 use integers::fraction::Order;
 use integers::root;
+use outline::Side;
 use plane::Corner;
 use projection::answers;
 use sweep::State;
@@ -21,7 +21,7 @@ ghost use Rattle.hausdorff.specs.Worst.{overall};
 ghost use Rattle.hausdorff.specs.Report.{orWithin, clearance};
 ghost use Rattle.measuring.specs.Changes.{BoundedWorst};
 ghost use Rattle.sweep.specs.State.{BoundedState};
-ghost use Rattle.comparing.specs.Reported.{reported};
+ghost use Rattle.comparing.specs.ReportOf.{reportOf};
 
 // The one with the greater gap; the first of equals.
 fn worse(w: CornerGap, z: CornerGap) -> CornerGap
@@ -52,12 +52,12 @@ fn overall(a: WorstSoFar, b: WorstSoFar) -> WorstSoFar
 }
 
 // The answer: the worst so far after all steps or, if it is none, A's corner 0, at `first`, within.
-fn answer(worst: WorstSoFar, first: Corner) -> CornerGap
+fn or_within(worst: WorstSoFar, first: Corner) -> CornerGap
     ensures { λ r. ⌜ r ≡ orWithin first worst ⌝ }
 {
     match worst {
         WorstSoFar::Worst(w) => w,
-        WorstSoFar::None => measuring::named(Side::A, 0, answers::within(first)),
+        WorstSoFar::None => measuring::with_corner(Side::A, 0, answers::within(first)),
     }
 }
 
@@ -70,9 +70,9 @@ fn clearance(gap: Fraction) -> u64
 }
 
 // What there is to report after the steps made. `first` is A's corner 0.
-pub fn report(state: State, steps: u32, is_spent: bool, first: Corner) -> Report
+pub fn report_of(state: State, steps: u32, is_spent: bool, first: Corner) -> Report
     requires { ⌜ BoundedState state ⌝ }
-    ensures { λ r. ⌜ r ≡ reported state steps «is_spent» first ⌝ }
+    ensures { λ r. ⌜ r ≡ reportOf state steps «is_spent» first ⌝ }
 {
     let side_a = state.a;
     let side_b = state.b;
@@ -89,7 +89,7 @@ pub fn report(state: State, steps: u32, is_spent: bool, first: Corner) -> Report
             worst: worst,
         });
     }
-    let answer = answer(worst, first);
+    let answer = or_within(worst, first);
     let gap = answer.gap;
     Report::Done(Done {
         steps: steps,

@@ -1,8 +1,8 @@
 -- The list without corner k.
---     kept-before, kept-after            `kept k i` is i before k, and i + 1 from k on
---     kept-mono, kept-≤                  it rises with i, and is at most i + 1
+--     oldNumber-before, oldNumber-after  `oldNumber k i` is i before k, and i + 1 from k on
+--     oldNumber-mono, oldNumber-≤        it rises with i, and is at most i + 1
 --     length-without, numbers-without    one corner fewer, two numbers fewer
---     corner-without                     the i-th of the other corners is corner `kept k i`
+--     corner-without                     the i-th of the other corners is corner `oldNumber k i`
 --     without-convex, without-accepted   it is strictly convex as the list is; accepted as the list is, if four corners or more
 use Prim.Native.Nat.{ℕ, zero, suc, _*_, _-_, _≤_, _<_}
 use native.Mathlib.Omega.{arith}
@@ -13,30 +13,30 @@ use Rattle.plane.specs.declared.Corner.{Corner}
 use Rattle.plane.specs.Vector.{coordinates}
 use Rattle.outline.specs.Corners.{corner}
 use Rattle.outline.specs.Convex.{StrictlyConvex, Accepted}
-use Rattle.edit.specs.Removal.{without, kept}
+use Rattle.edit.specs.Removal.{without, oldNumber}
 use Rattle.outline.proofs.CornersLaws.{length-coordinates}
 use Rattle.outline.proofs.LeftTurns.{convex-part}
 
-pub kept-before : (k i : ℕ) → i < k → kept k i ≡ i
-kept-before zero i h = absurd (omega arith)
-kept-before (suc k) zero h = refl
-kept-before (suc k) (suc i) h = ap suc (kept-before k i (omega arith))
+pub oldNumber-before : (k i : ℕ) → i < k → oldNumber k i ≡ i
+oldNumber-before zero i h = absurd (omega arith)
+oldNumber-before (suc k) zero h = refl
+oldNumber-before (suc k) (suc i) h = ap suc (oldNumber-before k i (omega arith))
 
-pub kept-after : (k i : ℕ) → k ≤ i → kept k i ≡ suc i
-kept-after zero i h = refl
-kept-after (suc k) zero h = absurd (omega arith)
-kept-after (suc k) (suc i) h = ap suc (kept-after k i (omega arith))
+pub oldNumber-after : (k i : ℕ) → k ≤ i → oldNumber k i ≡ suc i
+oldNumber-after zero i h = refl
+oldNumber-after (suc k) zero h = absurd (omega arith)
+oldNumber-after (suc k) (suc i) h = ap suc (oldNumber-after k i (omega arith))
 
-pub kept-mono : (k i j : ℕ) → i < j → kept k i < kept k j
-kept-mono zero i j h = omega arith
-kept-mono (suc k) i zero h = absurd (omega arith)
-kept-mono (suc k) zero (suc j) h = omega arith
-kept-mono (suc k) (suc i) (suc j) h = omega (arith, kept-mono k i j (omega arith))
+pub oldNumber-mono : (k i j : ℕ) → i < j → oldNumber k i < oldNumber k j
+oldNumber-mono zero i j h = omega arith
+oldNumber-mono (suc k) i zero h = absurd (omega arith)
+oldNumber-mono (suc k) zero (suc j) h = omega arith
+oldNumber-mono (suc k) (suc i) (suc j) h = omega (arith, oldNumber-mono k i j (omega arith))
 
-pub kept-≤ : (k i : ℕ) → kept k i ≤ suc i
-kept-≤ zero i = omega arith
-kept-≤ (suc k) zero = omega arith
-kept-≤ (suc k) (suc i) = omega (arith, kept-≤ k i)
+pub oldNumber-≤ : (k i : ℕ) → oldNumber k i ≤ suc i
+oldNumber-≤ zero i = omega arith
+oldNumber-≤ (suc k) zero = omega arith
+oldNumber-≤ (suc k) (suc i) = omega (arith, oldNumber-≤ k i)
 
 pub length-without : (k : ℕ) (cs : List Corner) → k < length cs → suc (length (without k cs)) ≡ length cs
 unfolding without
@@ -45,7 +45,7 @@ length-without k cs h = simp (length-append, length-take, length-drop) (omega ar
 pub numbers-without : (k : ℕ) (cs : List Corner) → k < length cs → length (coordinates (without k cs)) ≡ 2 * (length cs - 1)
 numbers-without k cs h = omega (arith, length-coordinates (without k cs), length-without k cs h)
 
-pub corner-without : (k : ℕ) (cs : List Corner) (i : ℕ) → corner (without k cs) i ≡ corner cs (kept k i)
+pub corner-without : (k : ℕ) (cs : List Corner) (i : ℕ) → corner (without k cs) i ≡ corner cs (oldNumber k i)
 unfolding without
 corner-without zero [] i = refl
 corner-without (suc k) [] i = refl
@@ -55,7 +55,8 @@ corner-without (suc k) (c ∷ cs) (suc i) = corner-without k cs i
 
 pub without-convex : (cs : List Corner) (k : ℕ) → k < length cs → StrictlyConvex cs → StrictlyConvex (without k cs)
 without-convex cs k h =
-    convex-part cs (without k cs) (kept k) (kept-mono k) (λ i b. omega (arith, kept-≤ k i, length-without k cs h)) (corner-without k cs)
+    convex-part cs (without k cs) (oldNumber k) (oldNumber-mono k)
+    (λ i b. omega (arith, oldNumber-≤ k i, length-without k cs h)) (corner-without k cs)
 
 pub without-accepted : (cs : List Corner) (k : ℕ) → Accepted cs → 4 ≤ length cs → k < length cs → Accepted (without k cs)
 without-accepted cs k a four h =
@@ -63,6 +64,6 @@ without-accepted cs k a four h =
     record {
       at-least = omega arith;
       at-most = omega (arith, a .at-most);
-      in-range = λ i b. rw (corner-without k cs i) (a .in-range (kept k i) (omega (arith, kept-≤ k i)));
+      in-range = λ i b. rw (corner-without k cs i) (a .in-range (oldNumber k i) (omega (arith, oldNumber-≤ k i)));
       convex = without-convex cs k h (a .convex);
     }

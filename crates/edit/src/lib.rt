@@ -1,16 +1,26 @@
 // Editing the corner list of an outline: removing a corner.
-use outline::Check;
-use outline::FEWEST;
-use outline::Fault;
+use outline::Place;
+use outline::RefusedSide;
+use outline::Verdict;
 use plane::Corner;
 use reading::checks;
+use reading::checks::TOO_FEW;
 use reading::corners;
+use reading::refusals::refuse;
 ghost use mathlib.Core.Path.{_≡_};
 ghost use Prim.Native.Nat.{_+_, _*_, _^_, _<_};
 ghost use lib.ListN.{length};
 ghost use Rattle.plane.specs.Vector.{coordinates};
 ghost use Rattle.outline.specs.Corners.{corners};
-ghost use Rattle.edit.specs.Removal.{kept, without, removal, Removable, putCorner};
+ghost use Rattle.edit.specs.Removal.{oldNumber, without, checkRemoval, Removable, putCorner};
+
+// The count of an outline that no corner can be removed from.
+const SMALLEST: usize = 3;
+
+// The numbers of the refusals that reading does not have.
+const NO_SUCH_CORNER: u32 = 8;
+
+const WRONG_LENGTH: u32 = 9;
 
 // Writes a corner's coordinates to a list, as its corner j.
 fn put_corner(out: &mut [i32], j: usize, c: Corner)
@@ -24,31 +34,31 @@ fn put_corner(out: &mut [i32], j: usize, c: Corner)
 }
 
 // The number in the longer list of the corner that has number i once corner k is gone.
-fn kept(k: usize, i: usize) -> usize
+fn old_number(k: usize, i: usize) -> usize
     requires { ⌜ i + 1 < 2 ^ 64 ⌝ }
-    ensures { λ r. ⌜ r ≡ kept k i ⌝ }
+    ensures { λ r. ⌜ r ≡ oldNumber k i ⌝ }
 {
     if i < k { i } else { i + 1 }
 }
 
-// What stands against removing corner k of a list, with `room` places to write what remains.
-pub fn check_removal(s: &[i32], k: usize, room: usize) -> Check
-    ensures { λ r. ⌜ r ≡ removal (now (s .entry)) k room ⌝ }
+// Whether corner k of a list can be removed, with `room` places to write what remains.
+pub fn check_removal(s: &[i32], k: usize, room: usize) -> Verdict
+    ensures { λ r. ⌜ r ≡ checkRemoval (now (s .entry)) k room ⌝ }
 {
-    if let Check::Failed(f) = checks::check(s) {
-        return Check::Failed(f);
+    if let Verdict::Refused(refusal) = checks::check(s, RefusedSide::NoSide) {
+        return Verdict::Refused(refusal);
     }
     let n = corners::count(s);
     if n <= k {
-        return Check::Failed(Fault::NoSuchCorner);
+        return refuse(NO_SUCH_CORNER, RefusedSide::NoSide, Place::Nowhere);
     }
-    if n == FEWEST {
-        return Check::Failed(Fault::TooFewCorners);
+    if n == SMALLEST {
+        return refuse(TOO_FEW, RefusedSide::NoSide, Place::Nowhere);
     }
     if room != 2 * (n - 1) {
-        return Check::Failed(Fault::WrongLength);
+        return refuse(WRONG_LENGTH, RefusedSide::NoSide, Place::Nowhere);
     }
-    Check::Passed
+    Verdict::Taken
 }
 
 // Writes the corners of a list without corner k, in their order.
@@ -59,7 +69,7 @@ pub fn write_without(s: &[i32], k: usize, out: &mut [i32])
     let rest = corners::count(s) - 1;
     let mut i = 0;
     while i < rest {
-        put_corner(out, i, corners::corner(s, kept(k, i)));
+        put_corner(out, i, corners::corner(s, old_number(k, i)));
         i += 1;
     }
 }

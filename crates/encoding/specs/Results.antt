@@ -1,24 +1,27 @@
 -- The numbers that a result list holds after a call, place by place.
 --     absent                      stands where a place does not apply
 --     kindOf, numberOf            the kind of a feature, and its number
---     sideOf                      the side of a corner
+--     sideCode                      the side of a corner
 --     ofNearest                   of a nearest point: feature kind and number, gap upper and lower, X, Y and D of the point
 --     ofCorner, ofWorst           of a corner with its gap: side and corner, and then as `ofNearest`; of the worst so far, or none
---     row, ofDone, ofSpent        of a comparison: kind, steps, support corners of A and B, then as `ofWorst`, then the clearance
+--     row, ofDone, ofSpent, ofReport    of a comparison: kind, steps, support corners of A and B, then as `ofWorst`,
+--                                       then the clearance
 use mathlib.Core.List.{List, [], _∷_, _++_}
 use lib.IntN.{ℤ, pos, negsuc}
 use lib.ListN.{replicate}
 use Rattle.nearest.specs.declared.Feature.{Feature}
 use Rattle.nearest.specs.declared.Feature.the-variants.{Within, Corner, Edge}
 use Rattle.nearest.specs.declared.NearestPoint.{NearestPoint}
-use Rattle.hausdorff.specs.declared.Side.{Side}
-use Rattle.hausdorff.specs.declared.Side.the-variants.{A, B}
+use Rattle.outline.specs.declared.Side.{Side}
+use Rattle.outline.specs.declared.Side.the-variants.{A, B}
 use Rattle.hausdorff.specs.declared.CornerGap.{CornerGap}
 use Rattle.hausdorff.specs.declared.WorstSoFar.{WorstSoFar}
 use Rattle.hausdorff.specs.declared.WorstSoFar.the-variants.{None, Worst}
 use Rattle.hausdorff.specs.declared.Spent.{Spent}
 use Rattle.hausdorff.specs.declared.Done.{Done}
-use Rattle.hausdorff.specs.CornerGap.{found}
+use Rattle.hausdorff.specs.declared.Report.{Report}
+use Rattle.hausdorff.specs.declared.Report.the-variants as Report
+use Rattle.hausdorff.specs.CornerGap.{nearestOf}
 
 -- -1
 abbrev pub absent : ℤ
@@ -45,12 +48,12 @@ ofNearest a =
     ∷ pos (a .point .lower)
     ∷ []
 
-abbrev pub sideOf : Side → ℤ
-sideOf A = pos 1
-sideOf B = pos 2
+abbrev pub sideCode : Side → ℤ
+sideCode A = pos 1
+sideCode B = pos 2
 
 abbrev pub ofCorner : CornerGap → List ℤ
-ofCorner w = sideOf (w .side) ∷ pos (w .corner) ∷ ofNearest (found w)
+ofCorner w = sideCode (w .side) ∷ pos (w .corner) ∷ ofNearest (nearestOf w)
 
 -- none yet: side 0, and nothing else applies
 abbrev pub ofWorst : WorstSoFar → List ℤ
@@ -69,3 +72,7 @@ ofDone d = row (pos 0) (pos (d .steps)) absent absent (Worst (d .answer)) (pos (
 -- kind 1: no clearance
 abbrev pub ofSpent : Spent → List ℤ
 ofSpent p = row (pos 1) (pos (p .steps)) (pos (p .support .a)) (pos (p .support .b)) (p .worst) absent
+
+abbrev pub ofReport : Report → List ℤ
+ofReport (Report.Spent p) = ofSpent p
+ofReport (Report.Done d) = ofDone d

@@ -1,5 +1,5 @@
 -- The status that every call returns.
---     sideNumber                             the side of a refusal
+--     refusedSideCode                        the side of a refusal
 --     placeCount, firstPlace, secondPlace    how many place numbers a refusal has, and these
 --     plain                                  a status with a code alone
 --     answered                               the call answered (a comparison that is spent too)
@@ -10,13 +10,14 @@ use Rattle.outline.specs.declared.Place.{Place}
 use Rattle.outline.specs.declared.Place.the-variants.{Nowhere, At, EdgeAndCorner}
 use Rattle.outline.specs.declared.Refusal.{Refusal}
 use Rattle.outline.specs.declared.RefusedSide.{RefusedSide}
-use Rattle.outline.specs.declared.RefusedSide.the-variants.{NoSide, A, B}
+use Rattle.outline.specs.declared.RefusedSide.the-variants.{NoSide, Of}
+use Rattle.outline.specs.declared.Side.the-variants.{A, B}
 use Rattle.encoding.specs.declared.status.Status.{Status}
 
-abbrev pub sideNumber : RefusedSide → ℕ
-sideNumber NoSide = 0
-sideNumber A = 1
-sideNumber B = 2
+abbrev pub refusedSideCode : RefusedSide → ℕ
+refusedSideCode NoSide = 0
+refusedSideCode (Of A) = 1
+refusedSideCode (Of B) = 2
 
 abbrev pub placeCount : Place → ℕ
 placeCount Nowhere = 0
@@ -47,7 +48,7 @@ wrongResultLength = plain 100
 abbrev pub refusedStatus : Refusal → Status
 refusedStatus r = record {
   code = r .number;
-  side = sideNumber (r .side);
+  side = refusedSideCode (r .side);
   places = placeCount (r .place);
   first = firstPlace (r .place);
   second = secondPlace (r .place);

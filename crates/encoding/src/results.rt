@@ -1,16 +1,19 @@
 // The numbers of each answer, as a result list holds them. `specs/Results.antt` sets them out, place by place.
 use hausdorff::CornerGap;
 use hausdorff::Done;
-use hausdorff::Side;
+use hausdorff::Report;
 use hausdorff::Spent;
 use hausdorff::WorstSoFar;
 use nearest::Feature;
 use nearest::NearestPoint;
+use outline::Side;
 ghost use mathlib.Core.Path.{_≡_};
 ghost use Prim.Native.Nat.{_^_, _<_};
 ghost use lib.IntN.{pos};
-ghost use Rattle.encoding.specs.Results.{kindOf, numberOf, ofNearest, sideOf, ofCorner, ofWorst, row, ofDone, ofSpent};
-ghost use Rattle.hausdorff.specs.Sizes.{FeatureFits, NearestFits, CornerFits, WorstFits, DoneFits, SpentFits};
+ghost use Rattle.encoding.specs.Results.{kindOf, numberOf, ofNearest, sideCode, ofCorner, ofWorst, row, ofDone};
+ghost use Rattle.encoding.specs.Results.{ofSpent, ofReport};
+ghost use Rattle.hausdorff.specs.Sizes.{FeatureFits, NearestFits, CornerFits, WorstFits};
+ghost use Rattle.hausdorff.specs.Sizes.{DoneFits, SpentFits, ReportFits};
 
 // How many numbers there are of a nearest point, of a corner with its gap, and of a comparison.
 pub const NEAREST_LENGTH: usize = 7;
@@ -76,8 +79,8 @@ pub fn of_nearest(a: NearestPoint) -> [i64; NEAREST_LENGTH]
 }
 
 // The side of a corner.
-fn side_of(side: Side) -> i64
-    ensures { λ r. ⌜ r ≡ sideOf side ⌝ }
+fn side_code(side: Side) -> i64
+    ensures { λ r. ⌜ r ≡ sideCode side ⌝ }
 {
     match side {
         Side::A => 1,
@@ -100,7 +103,7 @@ fn of_corner(w: CornerGap) -> [i64; CORNER_LENGTH]
         point,
     });
     [
-        side_of(side),
+        side_code(side),
         signed(w.corner as u64),
         n[0],
         n[1],
@@ -159,7 +162,7 @@ fn row(
 }
 
 // The numbers of a comparison that is done.
-pub fn of_done(d: Done) -> [i64; COMPARE_LENGTH]
+fn of_done(d: Done) -> [i64; COMPARE_LENGTH]
     requires { ⌜ DoneFits d ⌝ }
     ensures { λ r. ⌜ r ≡ ofDone d ⌝ }
 {
@@ -175,7 +178,7 @@ pub fn of_done(d: Done) -> [i64; COMPARE_LENGTH]
 }
 
 // The numbers of a comparison that is spent.
-pub fn of_spent(p: Spent) -> [i64; COMPARE_LENGTH]
+fn of_spent(p: Spent) -> [i64; COMPARE_LENGTH]
     requires { ⌜ SpentFits p ⌝ }
     ensures { λ r. ⌜ r ≡ ofSpent p ⌝ }
 {
@@ -190,4 +193,15 @@ pub fn of_spent(p: Spent) -> [i64; COMPARE_LENGTH]
         worst,
         ABSENT,
     )
+}
+
+// The numbers of a comparison.
+pub fn of_report(report: Report) -> [i64; COMPARE_LENGTH]
+    requires { ⌜ ReportFits report ⌝ }
+    ensures { λ r. ⌜ r ≡ ofReport report ⌝ }
+{
+    match report {
+        Report::Spent(spent) => of_spent(spent),
+        Report::Done(done) => of_done(done),
+    }
 }

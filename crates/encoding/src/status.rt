@@ -2,8 +2,9 @@
 use outline::Place;
 use outline::Refusal;
 use outline::RefusedSide;
+use outline::Side;
 ghost use mathlib.Core.Path.{_≡_};
-ghost use Rattle.encoding.specs.Status.{sideNumber, placeCount, firstPlace, secondPlace, refusedStatus};
+ghost use Rattle.encoding.specs.Status.{refusedSideCode, placeCount, firstPlace, secondPlace, refusedStatus};
 ghost use Rattle.encoding.specs.Status.{plain, answered, wrongResultLength};
 
 // Whether a call answered and, if not, why: the code, the side of a refusal, how many place numbers it has, and these.
@@ -50,13 +51,15 @@ pub fn wrong_result_length() -> Status
 }
 
 // The number of a refusal's side.
-fn side_number(side: RefusedSide) -> u32
-    ensures { λ r. ⌜ r ≡ sideNumber side ⌝ }
+fn refused_side_code(side: RefusedSide) -> u32
+    ensures { λ r. ⌜ r ≡ refusedSideCode side ⌝ }
 {
     match side {
         RefusedSide::NoSide => 0,
-        RefusedSide::A => 1,
-        RefusedSide::B => 2,
+        RefusedSide::Of(side) => match side {
+            Side::A => 1,
+            Side::B => 2,
+        },
     }
 }
 
@@ -101,7 +104,7 @@ pub fn refused(refusal: Refusal) -> Status
     let place = refusal.place;
     Status {
         code: refusal.number,
-        side: side_number(side),
+        side: refused_side_code(side),
         places: place_count(place),
         first: first_place(place),
         second: second_place(place),

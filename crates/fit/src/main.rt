@@ -19,5 +19,5 @@ fn room() -> [u8; ROOM]
 fn main() {
     let mut input = room();
     let count = io::read_full(STDIN_FILENO, &mut input);
-    print::held(fit_text::respond(&input[..count]));
+    print::write(fit_text::respond(&input[..count]));
 }

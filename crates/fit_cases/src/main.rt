@@ -28,7 +28,7 @@ fn respond_each(s: &[u8]) {
     let mut from = 0;
     while from < s.len() {
         let end = case_end(s, from);
-        print::held(fit_text::respond(&s[from..end]));
+        print::write(fit_text::respond(&s[from..end]));
         from = end + 1;
     }
 }

@@ -6,24 +6,26 @@ use mathlib.Core.List.{List, [], _∷_}
 use mathlib.Core.Path.{_≡_, refl}
 use Rattle.plane.specs.Range.{inRange}
 use Rattle.plane.specs.Vector.{_⇀_, cross, dot, same}
-use Rattle.outline.specs.Checks.{each}
+use Rattle.lists.specs.Fold.{fold}
 use Rattle.outline.specs.Corners.{corners, next}
-use Rattle.outline.specs.Reading.{outOfRange, repeated, notLeftOf, notLeft, check}
-use Rattle.outline.specs.Turns.{all}
-use Rattle.nearest.specs.Local.{firstOf, feature}
+use Rattle.outline.specs.Reading.{checkRange, checkRepeated, checkEdge, checkConvex}
+use Rattle.nearest.specs.Local.{feature}
 use Rattle.plane.specs.Direction.{isFirstHalf, isBefore, sameDirection}
 use Rattle.plane.specs.Point.{_⇢_}
 use Rattle.integers.specs.Root.{rootBy}
-use Rattle.hausdorff.specs.AngularOrder.{precedes, insert, sort, edgesBelow, angularOrder, own}
+use Rattle.lists.specs.Lists.{insert, sort}
+use Rattle.hausdorff.specs.AngularOrder.{precedes, edgesBelow, angularOrder, own}
 use Rattle.hausdorff.specs.Counting.{liesAt, isCounted}
 use Rattle.hausdorff.specs.Sweep.{begin, measured, step, steps}
 use Rattle.hausdorff.specs.Report.{report}
+use Rattle.hausdorff.specs.Call.{checkPair}
 use Rattle.text.specs.Ascii.{ascii}
 use Rattle.text.specs.Decimal.{digits}
 use Rattle.text.specs.Number.{allDigits, valueFrom, natural, number}
 use Rattle.text.specs.Words.{wordsFrom}
 use Rattle.fit_text.specs.Input.{numbers, outline}
-use Rattle.fit_lines.specs.Lines.{refusalText, gapText, numberLine, fromText, coordinateText, toText, doneText}
+use Rattle.answer_text.specs.Parts.{cornerText, fractionText, coordinateText, pointText, refusalText}
+use Rattle.fit_lines.specs.Lines.{gapLine, numberLine, fromLine, toLine, doneText}
 use Rattle.fit_text.specs.Response.{response}
 
 record Case : Type 0 where
@@ -56,5 +58,8 @@ cases =
     ∷ []
 
 pub examples : All cases
-unfolding inRange _⇀_ cross dot same each corners next outOfRange repeated notLeftOf notLeft check all firstOf feature isFirstHalf isBefore sameDirection _⇢_ rootBy precedes insert sort edgesBelow angularOrder own liesAt isCounted begin measured step steps report digits allDigits valueFrom natural number wordsFrom numbers outline refusalText gapText numberLine fromText coordinateText toText doneText
+unfolding inRange _⇀_ cross dot same fold corners next checkRange checkRepeated checkEdge checkConvex checkPair feature
+    isFirstHalf isBefore sameDirection _⇢_ rootBy precedes insert sort edgesBelow angularOrder own liesAt isCounted
+    begin measured step steps report digits allDigits valueFrom natural number wordsFrom numbers outline cornerText
+    fractionText coordinateText pointText refusalText gapLine numberLine fromLine toLine doneText
 examples = (refl, (refl, (refl, (refl, (refl, (refl, (refl, (refl, (refl, (refl, (refl, tt)))))))))))

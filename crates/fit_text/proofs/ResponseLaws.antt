@@ -14,51 +14,48 @@ use lib.Seq.{take-all, length-take-le}
 use borrow.Author.Tests.{lt-ltb, ltb-true, ltb-false}
 use Rattle.text.specs.Output.{room}
 use Rattle.text.specs.Words.{words}
-use Rattle.hausdorff.specs.declared.Spent.{Spent as SpentReport}
-use Rattle.hausdorff.specs.declared.Report.the-variants.{Done as ReportDone}
+use Rattle.hausdorff.specs.declared.Spent.{Spent}
+use Rattle.hausdorff.specs.declared.Report.the-variants as Report
 use Rattle.hausdorff.specs.declared.Comparison.{Comparison}
-use Rattle.hausdorff.specs.declared.Comparison.the-variants.{Refused, Spent, Done}
-use Rattle.hausdorff.specs.Call.{comparison, IsComparison, refused-a, refused-b, reported}
-use Rattle.hausdorff.proofs.CallLaws.{is-comparison}
+use Rattle.hausdorff.specs.declared.Comparison.the-variants.{Refused, Reported}
+use Rattle.hausdorff.specs.Call.{comparison}
+use Rattle.hausdorff.proofs.CallLaws.{is-comparison, reported-means}
 use Rattle.fit_lines.specs.Lines.{comparisonText}
-use Rattle.fit_lines.proofs.LengthLaws.{refusal-fits, done-fits}
-use Rattle.fit_text.specs.declared.parsing.Outcome.the-variants.{Unreadable}
-use Rattle.fit_text.specs.Input.{Given, Numbers, TooMany, Unreadable as GivenUnreadable}
+use Rattle.fit_lines.proofs.LengthLaws.{refusal-line-fits, done-fits}
+use Rattle.fit_text.specs.declared.parsing.Outcome.the-variants as Outcome
+use Rattle.fit_text.specs.Input.{Given, Numbers, TooMany, Unreadable}
 use Rattle.fit_text.specs.Input.{outline, allowance, tooMany, withB, withA, outcome}
 use Rattle.fit_text.specs.Response.{outcomeText, mostBytes, response, LaidDown, unreadable, refused, done}
 
 -- an accepted pair has at most 512 edges, so the law of comparing says that it is done
-never-spent : (s t : List ℤ) (p : SpentReport) → ¬ (comparison s t allowance ≡ Spent p)
-never-spent s t p is = by-case (is-comparison s t allowance)
-  where
-    by-case : IsComparison s t allowance (comparison s t allowance) → ⊥
-    by-case (refused-a f first given) = let no : _≡_ {A = ℕ} 0 1 = cc in omega arith
-    by-case (refused-b f accepted first given) = let no : _≡_ {A = ℕ} 0 1 = cc in omega arith
-    by-case (reported r a b law given) =
-        let done : r ≡ ReportDone _ = law .else-done (omega (arith, a .1 .at-most, b .1 .at-most)) in
-        let no : _≡_ {A = ℕ} 0 1 = cc in omega arith
+never-spent : (s t : List ℤ) (p : Spent) → ¬ (comparison s t allowance ≡ Reported (Report.Spent p))
+never-spent s t p is =
+    let (a, (b, law)) = reported-means s t allowance (Report.Spent p) (rw is at (is-comparison s t allowance)) in
+    let done : Report.Spent p ≡ Report.Done _ = law .else-done (omega (arith, a .1 .at-most, b .1 .at-most)) in
+    let no : _≡_ {A = ℕ} 0 1 = cc in omega arith
 
 -- what a comparison that is not spent writes
-comparison-laid-down : (c : Comparison) → ((p : SpentReport) → ¬ (c ≡ Spent p)) → LaidDown (comparisonText c)
+comparison-laid-down : (c : Comparison) → ((p : Spent) → ¬ (c ≡ Reported (Report.Spent p)))
+    → LaidDown (comparisonText c)
 comparison-laid-down (Refused r) not-spent = refused r refl
-comparison-laid-down (Spent p) not-spent = absurd (not-spent p refl)
-comparison-laid-down (Done d) not-spent = done d refl
+comparison-laid-down (Reported (Report.Spent p)) not-spent = absurd (not-spent p refl)
+comparison-laid-down (Reported (Report.Done d)) not-spent = done d refl
 
 b-laid-down : (s : List ℤ) (g : Given) → LaidDown (outcomeText (withB s g))
 b-laid-down s (Numbers t []) = comparison-laid-down (comparison s t allowance) (never-spent s t)
 b-laid-down s (Numbers t (w ∷ ws)) = unreadable refl
 b-laid-down s TooMany = comparison-laid-down (comparison s tooMany allowance) (never-spent s tooMany)
-b-laid-down s GivenUnreadable = unreadable refl
+b-laid-down s Unreadable = unreadable refl
 
 a-laid-down : (g : Given) → LaidDown (outcomeText (withA g))
 a-laid-down (Numbers s ws) = b-laid-down s (outline ws)
 a-laid-down TooMany = comparison-laid-down (comparison tooMany [] allowance) (never-spent tooMany [])
-a-laid-down GivenUnreadable = unreadable refl
+a-laid-down Unreadable = unreadable refl
 
 pub response-laid-down : (s : List ℕ) → LaidDown (response s)
 response-laid-down s = by-length (ltb mostBytes (length s))
   where
-    by-length : (t : Bool) → LaidDown (outcomeText (cond t Unreadable (outcome s)))
+    by-length : (t : Bool) → LaidDown (outcomeText (cond t Outcome.Unreadable (outcome s)))
     by-length true = unreadable refl
     by-length false = a-laid-down (outline (words s))
 
@@ -79,5 +76,5 @@ response-fits s = by-text (response-laid-down s)
   where
     by-text : {t : List ℕ} → LaidDown t → length t ≤ room
     by-text (unreadable is) = rw is (omega arith)
-    by-text (refused r is) = rw is (refusal-fits r)
+    by-text (refused r is) = rw is (refusal-line-fits r)
     by-text (done d is) = rw is (done-fits d)

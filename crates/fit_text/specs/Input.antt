@@ -1,6 +1,6 @@
 -- Document 01: what the fit program reads.
 --     Given            what a text gives for one outline: its numbers and the words after them, or a count above 256, or it cannot be read
---     put, before      a number before what is given; the first number and what the words after it give
+--     put, before      a number, or what a word gives, before what the words after it give
 --     numbers          so many numbers, one a word
 --     counted, outline a corner count and the numbers of an outline. A count above 256 ends the reading
 --     allowance        how many steps are allowed
@@ -18,15 +18,16 @@ use mathlib.Core.List.{List, [], _∷_}
 use lib.Dec.{ltb}
 use lib.IntN.{ℤ, pos, negsuc}
 use lib.ListN.{replicate, take, drop}
-use Rattle.text.specs.First.{FirstNumber, Number, None, firstNumber}
+use Rattle.text.specs.declared.input.Parsed.{Parsed}
+use Rattle.text.specs.declared.input.Parsed.the-variants.{Number, Invalid}
+use Rattle.text.specs.Number.{firstNumber}
 use Rattle.text.specs.Words.{words}
 use Rattle.outline.specs.Corners.{most}
 use Rattle.hausdorff.specs.Call.{comparison}
 use Rattle.fit_text.specs.declared.parsing.Outcome.{Outcome}
-use Rattle.fit_text.specs.declared.parsing.Outcome.the-variants.{Compared, Unreadable as OutcomeUnreadable}
+use Rattle.fit_text.specs.declared.parsing.Outcome.the-variants as Outcome
 use Rattle.fit_text.specs.declared.parsing.Found.{Found}
-use Rattle.fit_text.specs.declared.parsing.Found.the-variants.{Numbers as FoundNumbers}
-use Rattle.fit_text.specs.declared.parsing.Found.the-variants.{TooMany as FoundTooMany, Unreadable as FoundUnreadable}
+use Rattle.fit_text.specs.declared.parsing.Found.the-variants as Found
 
 pub data Given : Type 0 where
   Numbers : List ℤ → List (List ℕ) → Given
@@ -39,22 +40,22 @@ put z TooMany = TooMany
 put z Unreadable = Unreadable
 
 -- a missing number cannot be read
-abbrev pub before : FirstNumber → (List (List ℕ) → Given) → Given
-before (Number z ws) rest = put z (rest ws)
-before None rest = Unreadable
+abbrev pub before : Parsed → Given → Given
+before (Number z) g = put z g
+before Invalid g = Unreadable
 
 unfoldable pub numbers : ℕ → List (List ℕ) → Given
 numbers zero ws = Numbers [] ws
-numbers (suc n) ws = before (firstNumber ws) (λ rest. numbers n rest)
+numbers (suc n) ws = before (firstNumber ws) (numbers n (drop 1 ws))
 
 -- nor can a negative count
-abbrev pub counted : FirstNumber → Given
-counted (Number (pos n) ws) = let read = numbers (2 * n) ws in cond (ltb most n) TooMany read
-counted (Number (negsuc n) ws) = Unreadable
-counted None = Unreadable
+abbrev pub counted : Parsed → List (List ℕ) → Given
+counted (Number (pos n)) ws = let read = numbers (2 * n) ws in cond (ltb most n) TooMany read
+counted (Number (negsuc n)) ws = Unreadable
+counted Invalid ws = Unreadable
 
 unfoldable pub outline : List (List ℕ) → Given
-outline ws = counted (firstNumber ws)
+outline ws = counted (firstNumber ws) (drop 1 ws)
 
 -- how many steps are allowed
 abbrev pub allowance : ℕ
@@ -64,25 +65,25 @@ abbrev pub tooMany : List ℤ
 tooMany = replicate (2 * most + 2) (pos 0)
 
 abbrev pub withB : List ℤ → Given → Outcome
-withB s (Numbers t []) = Compared (comparison s t allowance)
-withB s (Numbers t (w ∷ ws)) = OutcomeUnreadable
-withB s TooMany = Compared (comparison s tooMany allowance)
-withB s Unreadable = OutcomeUnreadable
+withB s (Numbers t []) = Outcome.Compared (comparison s t allowance)
+withB s (Numbers t (w ∷ ws)) = Outcome.Unreadable
+withB s TooMany = Outcome.Compared (comparison s tooMany allowance)
+withB s Unreadable = Outcome.Unreadable
 
 abbrev pub withA : Given → Outcome
 withA (Numbers s ws) = withB s (outline ws)
-withA TooMany = Compared (comparison tooMany [] allowance)
-withA Unreadable = OutcomeUnreadable
+withA TooMany = Outcome.Compared (comparison tooMany [] allowance)
+withA Unreadable = Outcome.Unreadable
 
 abbrev pub outcome : List ℕ → Outcome
 outcome s = withA (outline (words s))
 
 abbrev pub asGiven : List ℕ → List ℤ → Found → Given
-asGiven s out (FoundNumbers n after) = Numbers (take n out) (words (drop after s))
-asGiven s out FoundTooMany = TooMany
-asGiven s out FoundUnreadable = Unreadable
+asGiven s out (Found.Numbers n after) = Numbers (take n out) (words (drop after s))
+asGiven s out Found.TooMany = TooMany
+asGiven s out Found.Unreadable = Unreadable
 
 abbrev pub countOf : Found → ℕ
-countOf (FoundNumbers n after) = n
-countOf FoundTooMany = 0
-countOf FoundUnreadable = 0
+countOf (Found.Numbers n after) = n
+countOf Found.TooMany = 0
+countOf Found.Unreadable = 0

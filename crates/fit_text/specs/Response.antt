@@ -11,8 +11,8 @@ use lib.Dec.{ltb}
 use lib.ListN.{length}
 use Rattle.text.specs.Ascii.{ascii}
 use Rattle.outline.specs.declared.Refusal.{Refusal}
-use Rattle.hausdorff.specs.declared.Done.{Done as DoneReport}
-use Rattle.fit_lines.specs.Lines.{refusalText, doneText, comparisonText}
+use Rattle.hausdorff.specs.declared.Done.{Done}
+use Rattle.fit_lines.specs.Lines.{refusalLine, doneText, comparisonText}
 use Rattle.fit_text.specs.declared.parsing.Outcome.{Outcome}
 use Rattle.fit_text.specs.declared.parsing.Outcome.the-variants.{Compared, Unreadable}
 use Rattle.fit_text.specs.Input.{outcome}
@@ -33,5 +33,5 @@ response s = outcomeText (judged s)
 
 pub data LaidDown (t : List ℕ) : Type 0 where
   unreadable : t ≡ ascii "unreadable\n" → LaidDown t
-  refused : (r : Refusal) → t ≡ refusalText r → LaidDown t
-  done : (d : DoneReport) → t ≡ doneText d → LaidDown t
+  refused : (r : Refusal) → t ≡ refusalLine r → LaidDown t
+  done : (d : Done) → t ≡ doneText d → LaidDown t

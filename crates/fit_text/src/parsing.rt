@@ -3,6 +3,7 @@ use hausdorff::Comparison;
 use outline::MOST;
 use text::input;
 use text::input::Next;
+use text::input::Parsed;
 ghost use mathlib.Core.Path.{_≡_};
 ghost use Prim.Native.Nat.{_*_, _≤_};
 ghost use lib.ListN.{length, drop};
@@ -38,11 +39,12 @@ fn numbers(s: &[u8], from: usize, n: usize, out: &mut [i32]) -> Found
     let mut next = from;
     let mut i = 0;
     while i < n {
-        let Next::Number(value, after) = input::next_number(s, next) else {
+        let Next { number, end } = input::next_number(s, next);
+        let Parsed::Number(value) = number else {
             return Found::Unreadable;
         };
         out[i] = value;
-        next = after;
+        next = end;
         i += 1;
     }
     Found::Numbers(n, next)
@@ -54,7 +56,8 @@ fn outline(s: &[u8], from: usize, out: &mut [i32]) -> Found
     ensures room { λ r. ⌜ countOf r ≤ length (now (out .entry)) ⌝ }
     ensures given { λ r. ⌜ asGiven (now (s .entry)) (now (out .exit)) r ≡ outline (words (drop from (now (s .entry)))) ⌝ }
 {
-    let Next::Number(count, after) = input::next_number(s, from) else {
+    let Next { number, end } = input::next_number(s, from);
+    let Parsed::Number(count) = number else {
         return Found::Unreadable;
     };
     if count < 0 {
@@ -63,7 +66,7 @@ fn outline(s: &[u8], from: usize, out: &mut [i32]) -> Found
     if (MOST as i32) < count {
         return Found::TooMany;
     }
-    numbers(s, after, 2 * (count as usize), out)
+    numbers(s, end, 2 * (count as usize), out)
 }
 
 // A list of 257 corners, which stands for an outline whose corner count is above 256: it gets 3.

@@ -21,10 +21,10 @@ use Rattle.nearest.proofs.SearchLaws.{search-nearest}
 use Rattle.hausdorff.specs.declared.CornerGap.{CornerGap}
 use Rattle.hausdorff.specs.declared.WorstSoFar.{WorstSoFar}
 use Rattle.hausdorff.specs.declared.WorstSoFar.the-variants.{None, Worst}
-use Rattle.hausdorff.specs.declared.Side.{Side}
-use Rattle.hausdorff.specs.declared.Side.the-variants.{A, B}
+use Rattle.outline.specs.declared.Side.{Side}
+use Rattle.outline.specs.declared.Side.the-variants.{A, B}
 use Rattle.hausdorff.specs.Pair.{Pair, other, stepCount, Polygons}
-use Rattle.hausdorff.specs.CornerGap.{named, cornerGap, worse}
+use Rattle.hausdorff.specs.CornerGap.{withCorner, cornerGap, worse}
 use Rattle.hausdorff.specs.Worst.{shownNumber, overall}
 use Rattle.hausdorff.specs.Sweep.{after}
 use Rattle.hausdorff.specs.Report.{answer, orWithin}
@@ -95,7 +95,7 @@ module _ (pair : Pair) (polygons : Polygons pair) where
       → worse (orFirst pair A a) (orFirst pair B b) ≡ orWithin (corner (pair A) 0) (overall a b)
   worse-overall None None p q =
       worse-first (cornerGap pair A 0) (cornerGap pair B 0) (least-iff pair polygons B A 0 0 (p 0 (nonempty A)) .1 (q 0 (nonempty B)))
-      ∙ ap (λ (f : Feature). named A 0 (values (pair B) (corner (pair A) 0) f))
+      ∙ ap (λ (f : Feature). withCorner A 0 (values (pair B) (corner (pair A) 0) f))
       (within-iff (polygons B) (corner (pair A) 0) .1 (p 0 (nonempty A)))
   worse-overall None (Worst b) p q = worse-second (cornerGap pair A 0) b (outside-above B A b 0 q (p 0 (nonempty A)))
   worse-overall (Worst a) None p q =
@@ -114,7 +114,8 @@ module _ (pair : Pair) (polygons : Polygons pair) where
       (side-worst pair polygons A) (side-worst pair polygons B)
 
   -- every corner is within
-  pub zero-answer : ((w : CornerGap) → IsGap pair w → w .gap .upper ≡ 0) → IsAnswer pair (named A 0 (withinValues (corner (pair A) 0)))
+  pub zero-answer : ((w : CornerGap) → IsGap pair w → w .gap .upper ≡ 0)
+      → IsAnswer pair (withCorner A 0 (withinValues (corner (pair A) 0)))
   zero-answer none = overall-answers None None (within A) (within B)
     where
       within : (s : Side) → SideWorst pair s None
@@ -124,7 +125,7 @@ module _ (pair : Pair) (polygons : Polygons pair) where
   -- what is tried is the corner's gap
   tried-leads : (s : Side) (n : ℕ) → n < length (pair s) → Leads pair (OnSide s (λ j. j ≡ n)) (searched pair s n)
   tried-leads s n below =
-      let same = ap (named s n) (search-nearest (polygons (other s)) (corner (pair s) n)) in
+      let same = ap (withCorner s n) (search-nearest (polygons (other s)) (corner (pair s) n)) in
       leads-of pair polygons s (λ j. j ≡ n) (searched pair s n) below (record {
         equal = same;
         holds = refl;

@@ -26,18 +26,18 @@ use Rattle.plane.proofs.Algebra.{O, vec, crossE, dotE, _⇀E_, components, side
 use Rattle.plane.proofs.Halves.{NonZero}
 use Rattle.plane.proofs.Points.{pt, wholeE, _⇢E_, numbers, whole-⇢, dot-self-0, same-refl, same-sym, not-apart}
 use Rattle.outline.specs.Convex.{Polygon}
-use Rattle.outline.specs.Corners.{corner, next, previous}
+use Rattle.outline.specs.Corners.{corner, next, previous, edge}
 use Rattle.outline.proofs.CornersLaws.{next-below, previous-below, next-previous, previous-next}
 use Rattle.nearest.specs.declared.Feature.{Feature}
-use Rattle.nearest.specs.declared.Feature.the-variants.{Within, Corner as AtCorner, Edge as OnEdge}
+use Rattle.nearest.specs.declared.Feature.the-variants as Feature
 use Rattle.nearest.specs.declared.NearestPoint.{NearestPoint}
 use Rattle.nearest.specs.Feature.{values}
-use Rattle.nearest.specs.Piece.{edge, sideOf, Outside}
+use Rattle.nearest.specs.Piece.{sideOf, Outside}
 use Rattle.nearest.specs.Local.{Tested, feature, nearest}
 use Rattle.nearest.specs.Nearest.{Fits, Between, Answers}
 use Rattle.nearest.proofs.AnswerLaws.{feature-tested, tested-answers}
 use Rattle.nearest.proofs.FitsLaws.{fits-unique}
-use Rattle.nearest.proofs.LocalLaws.{length-above-0}
+use Rattle.outline.proofs.EdgeLaws.{length-above-0}
 use Rattle.nearest.proofs.PieceLaws.{outside-test}
 use Rattle.hausdorff.specs.Counting.{isSame, liesOn, liesAt, isCounted}
 use Rattle.hausdorff.proofs.Extreme.{AtSupport}
@@ -131,17 +131,17 @@ module _ {cs : List Corner} (polygon : Polygon cs) where
 
     -- a point of edge i is its start, its end, or strictly between
     lying : (i : ℕ) → i < length cs → LiesOn cs i (a .point)
-        → P (AtCorner i) → P (AtCorner (next (length cs) i)) → P (OnEdge i) → P (a .feature)
+        → P (Feature.Corner i) → P (Feature.Corner (next (length cs) i)) → P (Feature.Edge i) → P (a .feature)
     lying i below lies start end between =
         let y = a .point in let e = edge cs i in let p = corner cs i in let j = next (length cs) i in let q = corner cs j in
         let long = length-above-0 polygon i below in let known = next-below (length cs) i (omega arith) in
         elim (≤ℤ-or-<ℤ (dot e (whole p ⇢ y)) (pos 0)) [
-          | inl first ↦ fitting (AtCorner i)
+          | inl first ↦ fitting (Feature.Corner i)
               (outside, below, same-sym (no-part e (whole p) y long (lies .on-line) (lies .from-start) first)) start
           | inr after ↦ elim (≤ℤ-or-<ℤ (dot e (y ⇢ whole q)) (pos 0)) [
-            | inl last ↦ fitting (AtCorner j)
+            | inl last ↦ fitting (Feature.Corner j)
                 (outside, known, no-part e y (whole q) long (line-back p q y (lies .on-line)) (lies .to-end) last) end
-            | inr before ↦ fitting (OnEdge i)
+            | inr before ↦ fitting (Feature.Edge i)
                 (outside, below, record { on-line = lies .on-line; after-start = after; before-end = before }) between
           ]
         ]
@@ -153,19 +153,20 @@ module _ {cs : List Corner} (polygon : Polygon cs) where
     -- the feature of a nearest point that lies at corner b is at that support corner
     lies-at-support : {v : Corner} {a : NearestPoint} → Answers cs v a → Outside cs (whole v) × LiesAt cs b (a .point)
         → AtSupport n b (a .feature)
-    lies-at-support is (outside, inl (inl same)) = fitting is outside (AtSupport n b) (AtCorner b) (outside, below, same) (inl refl)
+    lies-at-support is (outside, inl (inl same)) =
+        fitting is outside (AtSupport n b) (Feature.Corner b) (outside, below, same) (inl refl)
     lies-at-support is (outside, inl (inr lies)) =
         let into = next-previous n b below in
         lying is outside (AtSupport n b) (previous n b) (previous-below n b below) lies (inr (inr into)) (inl into) (inr into)
     lies-at-support is (outside, inr lies) = lying is outside (AtSupport n b) b below lies (inl refl) (inr (inl refl)) (inl refl)
 
     -- and back: a point of an edge at corner b lies at it
-    edge-lies-at : (i : ℕ) {y : Point} → i < n → LiesOn cs i y → AtSupport n b (OnEdge i) → LiesAt cs b y
+    edge-lies-at : (i : ℕ) {y : Point} → i < n → LiesOn cs i y → AtSupport n b (Feature.Edge i) → LiesAt cs b y
     edge-lies-at i known lies (inl e) = inr (rw (← e) lies)
     edge-lies-at i known lies (inr e) = inl (inr (rw (← e, previous-next n i known) lies))
 
     -- and so do the corner itself and its neighbours, which are ends of such edges
-    corner-lies-at : (i : ℕ) → i < n → AtSupport n b (AtCorner i) → LiesAt cs b (whole (corner cs i))
+    corner-lies-at : (i : ℕ) → i < n → AtSupport n b (Feature.Corner i) → LiesAt cs b (whole (corner cs i))
     corner-lies-at i known (inl e) = edge-lies-at i known (start-lies cs i) (inl e)
     corner-lies-at i known (inr (inl e)) = inr (rw e (end-lies cs b))
     corner-lies-at i known (inr (inr e)) = edge-lies-at i known (start-lies cs i) (inr e)
@@ -173,12 +174,13 @@ module _ {cs : List Corner} (polygon : Polygon cs) where
     -- both ways, for a feature whose test holds
     tested-at-support : (v : Corner) (f : Feature) → Tested cs v f
         → (Outside cs (whole v) × LiesAt cs b (values cs v f .point)) ↔ AtSupport n b f
-    tested-at-support v Within holds = (lies-at-support (tested-answers polygon v Within holds), λ none. absurd none)
-    tested-at-support v (AtCorner i) holds =
-        let is = tested-answers polygon v (AtCorner i) holds in let (outside, known, here) = is .fits in
+    tested-at-support v Feature.Within holds =
+        (lies-at-support (tested-answers polygon v Feature.Within holds), λ none. absurd none)
+    tested-at-support v (Feature.Corner i) holds =
+        let is = tested-answers polygon v (Feature.Corner i) holds in let (outside, known, here) = is .fits in
         (lies-at-support is, λ at-support. (outside, corner-lies-at i known at-support))
-    tested-at-support v (OnEdge i) holds =
-        let is = tested-answers polygon v (OnEdge i) holds in let (outside, known, between) = is .fits in
+    tested-at-support v (Feature.Edge i) holds =
+        let is = tested-answers polygon v (Feature.Edge i) holds in let (outside, known, between) = is .fits in
         (lies-at-support is, λ at-support. (outside, edge-lies-at i known (between-lies between) at-support))
 
   pub counted-iff : (b : ℕ) → b < length cs → (v : Corner) → (isCounted cs b v ≡ true) ↔ AtSupport (length cs) b (feature cs v)

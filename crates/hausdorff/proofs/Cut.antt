@@ -17,12 +17,11 @@ use native.Mathlib.Omega.{arith}
 use lib.ListN.{length}
 use Rattle.plane.specs.declared.Corner.{Corner}
 use Rattle.plane.specs.declared.Vector.{Vector}
-use Rattle.outline.specs.Corners.{next, previous}
+use Rattle.outline.specs.Corners.{next, previous, edge}
 use Rattle.outline.proofs.CornersLaws.{next-below, next-other, previous-below, next-previous, previous-next}
 use Rattle.nearest.specs.declared.Feature.{Feature}
-use Rattle.nearest.specs.declared.Feature.the-variants.{Within, Corner as AtCorner, Edge as OnEdge}
-use Rattle.nearest.specs.Piece.{edge}
-use Rattle.hausdorff.specs.AngularOrder.{headOr}
+use Rattle.nearest.specs.declared.Feature.the-variants as Feature
+use Rattle.lists.specs.Lists.{headOr}
 use Rattle.plane.proofs.Halves.{NonZero}
 use Rattle.plane.proofs.DirectionLaws.{Before, Along, Apart, before?, along?, before-split, along-apart, Around, around-start, around-end}
 use Rattle.hausdorff.proofs.GoesRound.{GoesRound}
@@ -179,12 +178,12 @@ module _ (cs : List Corner) (round : GoesRound (length cs) (edge cs)) (u : Vecto
         rw (start, next-previous n i below)
 
     pub strict-at-support : (f : Feature) → ExtremeFeature cs u f → AtSupport (length cs) (supportAt front rest) f
-    strict-at-support Within none = absurd none
-    strict-at-support (AtCorner i) extreme = ⊎-elim
+    strict-at-support Feature.Within none = absurd none
+    strict-at-support (Feature.Corner i) extreme = ⊎-elim
         (λ along. inr (inl (start-before i (extreme .known) along)))
         (λ apart. inl (sym (strict-support round i (extreme .known) (turned u) (corner-around u some i extreme) here apart)))
         (along? (edge cs (previous (length cs) i)) (turned u))
-    strict-at-support (OnEdge i) extreme =
+    strict-at-support (Feature.Edge i) extreme =
         inl (sym (strict-start round i (extreme .known) (turned u) (turned-some u some) here (edge-along u some i round extreme)))
 
   module _ (here : CutAt (length cs) (edge cs) (weak (turned u)) front rest) where
@@ -196,9 +195,9 @@ module _ (cs : List Corner) (round : GoesRound (length cs) (edge cs)) (u : Vecto
         sym (weak-end round (next n i) (next-below n i (omega arith)) (turned u) (turned-some u some) here along')
 
     pub weak-at-support : (f : Feature) → ExtremeFeature cs u f → AtSupport (length cs) (supportAt front rest) f
-    weak-at-support Within none = absurd none
-    weak-at-support (AtCorner i) extreme = ⊎-elim
+    weak-at-support Feature.Within none = absurd none
+    weak-at-support (Feature.Corner i) extreme = ⊎-elim
         (λ along. inr (inr (end-there i (extreme .known) along)))
         (λ apart. inl (sym (weak-support round i (extreme .known) (turned u) (corner-around u some i extreme) here apart)))
         (along? (edge cs i) (turned u))
-    weak-at-support (OnEdge i) extreme = inr (end-there i (extreme .known) (edge-along u some i round extreme))
+    weak-at-support (Feature.Edge i) extreme = inr (end-there i (extreme .known) (edge-along u some i round extreme))

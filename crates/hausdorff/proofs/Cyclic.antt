@@ -17,7 +17,7 @@ use mathlib.Core.List.{List·Memᴰ·eq-of-singleton, Pairwise, Pairwise·of-con
 use Rattle.plane.specs.declared.Vector.{Vector}
 use Rattle.outline.specs.Corners.{next}
 use Rattle.outline.proofs.CornersLaws.{next-below, next-other}
-use Rattle.hausdorff.specs.AngularOrder.{headOr}
+use Rattle.lists.specs.Lists.{headOr}
 use Rattle.plane.proofs.DirectionLaws.{Before, before-asym, before-trans, before-irrefl}
 use Rattle.hausdorff.proofs.GoesRound.{GoesRound}
 

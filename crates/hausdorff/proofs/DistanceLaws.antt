@@ -26,22 +26,22 @@ use Rattle.plane.proofs.Algebra.{O, vec, crossE, dotE, _⇀E_, dot-self}
 use Rattle.plane.proofs.Halves.{NonZero}
 use Rattle.plane.proofs.Points.{PointE, wholeE, _⇢E_, whole-proper}
 use Rattle.outline.specs.Convex.{Polygon}
-use Rattle.outline.specs.Corners.{corner}
+use Rattle.outline.specs.Corners.{corner, edge}
 use Rattle.nearest.specs.declared.Feature.{Feature}
-use Rattle.nearest.specs.declared.Feature.the-variants.{Within, Corner as AtCorner, Edge as OnEdge}
+use Rattle.nearest.specs.declared.Feature.the-variants as Feature
 use Rattle.nearest.specs.Feature.{footOn, values}
 use Rattle.nearest.specs.Local.{Tested, nearest, feature}
 use Rattle.nearest.specs.Nearest.{Nearest}
-use Rattle.nearest.specs.Piece.{edge, InPiece, Outside}
+use Rattle.nearest.specs.Piece.{InPiece, Outside}
 use Rattle.nearest.specs.Scaling.{nearestAt}
 use Rattle.nearest.proofs.AnswerLaws.{feature-tested, tested-answers, gap-zero-iff}
 use Rattle.nearest.proofs.DistanceLaws.{gap-order}
-use Rattle.nearest.proofs.LocalLaws.{length-above-0}
+use Rattle.outline.proofs.EdgeLaws.{length-above-0}
 use Rattle.nearest.proofs.NearestLaws.{nearest-bound, none-nearer}
 use Rattle.nearest.proofs.Scaling.{nearestAt-is}
 use Rattle.nearest.proofs.Support.{corner-in-piece, support}
 use Rattle.nearest.proofs.Walk.{edge-test}
-use Rattle.hausdorff.specs.declared.Side.{Side}
+use Rattle.outline.specs.declared.Side.{Side}
 use Rattle.hausdorff.specs.declared.CornerGap.{CornerGap}
 use Rattle.hausdorff.specs.Pair.{Pair, other, Polygons}
 use Rattle.hausdorff.specs.CornerGap.{cornerGap}
@@ -70,10 +70,11 @@ module _ {cs : List Corner} (polygon : Polygon cs) where
   -- the nearest feature to a point outside is extreme in the direction of that point
   extreme-feature : (v : Corner) → Outside cs (whole v) → (f : Feature) → Tested cs v f
       → ExtremeFeature cs (values cs v f .point ⇢ whole v) f
-  extreme-feature v outside Within none = outside (tested-answers polygon v Within none .fits .0)
-  extreme-feature v outside (AtCorner i) (below, holds) =
-      corner-extreme-iff polygon _ i below .1 (tested-answers polygon v (AtCorner i) (below, holds) .nearest .at-most-0)
-  extreme-feature v outside (OnEdge i) (below, holds) =
+  extreme-feature v outside Feature.Within none = outside (tested-answers polygon v Feature.Within none .fits .0)
+  extreme-feature v outside (Feature.Corner i) (below, holds) =
+      corner-extreme-iff polygon _ i below .1
+      (tested-answers polygon v (Feature.Corner i) (below, holds) .nearest .at-most-0)
+  extreme-feature v outside (Feature.Edge i) (below, holds) =
       let (normal, outward) = foot-normal (corner cs i) v (edge cs i) (length-above-0 polygon i below) (edge-test v _ _ .0 holds .0) in
       record { known = below; normal = normal; outward = outward }
 

@@ -25,11 +25,10 @@ use Rattle.plane.proofs.Algebra.{O, vec, crossE, dotE, _⇀E_, components, dot-
 use Rattle.plane.proofs.Halves.{NonZero}
 use Rattle.plane.proofs.Points.{whole-⇢}
 use Rattle.outline.specs.Convex.{Polygon}
-use Rattle.outline.specs.Corners.{corner, next, previous}
+use Rattle.outline.specs.Corners.{corner, next, previous, edge}
 use Rattle.outline.proofs.CornersLaws.{next-below, previous-below, next-previous, previous-next}
 use Rattle.nearest.specs.declared.Feature.{Feature}
-use Rattle.nearest.specs.declared.Feature.the-variants.{Within, Corner as AtCorner, Edge as OnEdge}
-use Rattle.nearest.specs.Piece.{edge}
+use Rattle.nearest.specs.declared.Feature.the-variants as Feature
 use Rattle.nearest.proofs.Support.{turns-left, corner-in-piece, corner-cone, turns-on}
 
 pub record ExtremeCorner (cs : List Corner) (u : Vector) (i : ℕ) : Type 0 where
@@ -43,14 +42,14 @@ pub record ExtremeEdge (cs : List Corner) (u : Vector) (i : ℕ) : Type 0 where
   pub outward : pos 0 <ℤ cross u (edge cs i)
 
 abbrev pub ExtremeFeature : List Corner → Vector → Feature → Type 0
-ExtremeFeature cs u Within = ⊥
-ExtremeFeature cs u (AtCorner i) = ExtremeCorner cs u i
-ExtremeFeature cs u (OnEdge i) = ExtremeEdge cs u i
+ExtremeFeature cs u Feature.Within = ⊥
+ExtremeFeature cs u (Feature.Corner i) = ExtremeCorner cs u i
+ExtremeFeature cs u (Feature.Edge i) = ExtremeEdge cs u i
 
 abbrev pub AtSupport : ℕ → ℕ → Feature → Type 0
-AtSupport n b Within = ⊥
-AtSupport n b (AtCorner i) = (i ≡ b) ⊎ (i ≡ next n b) ⊎ (next n i ≡ b)
-AtSupport n b (OnEdge i) = (i ≡ b) ⊎ (next n i ≡ b)
+AtSupport n b Feature.Within = ⊥
+AtSupport n b (Feature.Corner i) = (i ≡ b) ⊎ (i ≡ next n b) ⊎ (next n i ≡ b)
+AtSupport n b (Feature.Edge i) = (i ≡ b) ⊎ (next n i ≡ b)
 
 -- what does not fall from p to q does not rise from q to p
 dot-forth : (u : Vector) (p q : Corner) → pos 0 ≤ℤ dot u (p ⇀ q) → dot u (q ⇀ p) ≤ℤ pos 0

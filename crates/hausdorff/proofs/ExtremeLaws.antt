@@ -14,8 +14,7 @@ use Rattle.plane.specs.declared.Corner.{Corner}
 use Rattle.plane.specs.declared.Vector.{Vector}
 use Rattle.plane.specs.Vector.{cross, dot}
 use Rattle.plane.proofs.Algebra.{VecE, vec, crossE, dotE, components}
-use Rattle.outline.specs.Corners.{previous}
-use Rattle.nearest.specs.Piece.{edge}
+use Rattle.outline.specs.Corners.{previous, edge}
 use Rattle.plane.proofs.Halves.{NonZero}
 use Rattle.plane.proofs.DirectionLaws.{Along, Around, along-iff, around-turns}
 use Rattle.hausdorff.proofs.GoesRound.{GoesRound}

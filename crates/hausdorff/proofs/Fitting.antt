@@ -4,7 +4,7 @@
 --     answers-fit      so of the nearest point
 --     corner-fits      and of a corner with its gap to the other outline
 --     found-fits       what the call for the nearest point answers
---     done-fits, spent-fits    what the call that compares answers
+--     report-fits      what the call that compares reports
 use Prim.Native.Nat.{ℕ, zero, suc, zero-le, _*_, _^_, _≤_, _<_}
 use mathlib.Core.Path.{_≡_, refl, sym, subst}
 use mathlib.Core.List.{List}
@@ -22,33 +22,34 @@ use Rattle.plane.specs.Range.{InRange}
 use Rattle.plane.proofs.Arithmetic.{dot-is}
 use Rattle.plane.proofs.Range.{span-⇀, atMost-side}
 use Rattle.outline.specs.Convex.{Accepted}
-use Rattle.outline.proofs.Acceptance.{accepted-polygon}
+use Rattle.outline.proofs.EdgeLaws.{accepted-polygon, length-size}
 use Rattle.outline.proofs.CornersLaws.{next-below}
 use Rattle.nearest.specs.declared.Feature.{Feature}
-use Rattle.nearest.specs.declared.Feature.the-variants.{Within, Corner as AtCorner, Edge as OnEdge}
+use Rattle.nearest.specs.declared.Feature.the-variants as Feature
 use Rattle.nearest.specs.declared.NearestPoint.{NearestPoint}
 use Rattle.nearest.specs.declared.NearestAnswer.the-variants.{Found}
 use Rattle.nearest.specs.Call.{nearestAnswer}
 use Rattle.nearest.specs.Feature.{values}
 use Rattle.nearest.specs.Nearest.{Fits, Answers}
-use Rattle.nearest.proofs.CallLaws.{call-answers}
+use Rattle.nearest.proofs.CallLaws.{nearest-answers}
 use Rattle.hausdorff.specs.declared.CornerGap.{CornerGap}
 use Rattle.hausdorff.specs.declared.WorstSoFar.{WorstSoFar}
 use Rattle.hausdorff.specs.declared.WorstSoFar.the-variants.{None, Worst}
-use Rattle.hausdorff.specs.declared.Side.{Side}
-use Rattle.hausdorff.specs.declared.Side.the-variants.{A, B}
+use Rattle.outline.specs.declared.Side.{Side}
+use Rattle.outline.specs.declared.Side.the-variants.{A, B}
 use Rattle.hausdorff.specs.declared.Spent.{Spent}
 use Rattle.hausdorff.specs.declared.Done.{Done}
-use Rattle.hausdorff.specs.declared.Report.the-variants.{Spent as ReportSpent, Done as ReportDone}
-use Rattle.hausdorff.specs.declared.Comparison.the-variants.{Spent as IsSpent, Done as IsDone}
+use Rattle.hausdorff.specs.declared.Report.{Report}
+use Rattle.hausdorff.specs.declared.Report.the-variants as Report
+use Rattle.hausdorff.specs.declared.Comparison.the-variants.{Reported}
 use Rattle.hausdorff.specs.Pair.{Pair, AcceptedPair, other}
 use Rattle.hausdorff.specs.Answer.{IsGap}
 use Rattle.hausdorff.specs.Sweep.{after}
-use Rattle.hausdorff.specs.Law.{OfDone, OfSpent}
+use Rattle.hausdorff.specs.Law.{OfDone, OfSpent, Law}
 use Rattle.hausdorff.specs.Call.{IsComparison}
 use Rattle.hausdorff.proofs.CallLaws.{both-accepted, reported-means}
 use Rattle.hausdorff.proofs.WorstLaws.{support-known}
-use Rattle.hausdorff.specs.Sizes.{FitsI64, NearestFits, CornerFits, WorstFits, DoneFits, SpentFits}
+use Rattle.hausdorff.specs.Sizes.{FitsI64, NearestFits, CornerFits, WorstFits, DoneFits, SpentFits, ReportFits}
 
 -- a number of known size
 bounded-fits : {b : ℕ} {z : ℤ} → AtMost b z → T (ltb b (2 ^ 63)) → FitsI64 (natAbs z)
@@ -62,15 +63,15 @@ module _ {cs : List Corner} (ok : Accepted cs) where
   module _ {v : Corner} (in-range : InRange v) where
     -- a squared distance and a squared length are at most 2,048,000,000, and a side number too
     values-fit : (y : Point) (f : Feature) → Fits cs (whole v) y f → NearestFits (values cs v f)
-    values-fit y Within h = record { feature = tt; upper = lit< tt; lower = lit< tt; point-lower = lit< tt }
-    values-fit y (AtCorner i) (outside, below, same) =
+    values-fit y Feature.Within h = record { feature = tt; upper = lit< tt; lower = lit< tt; point-lower = lit< tt }
+    values-fit y (Feature.Corner i) (outside, below, same) =
         let to = span-⇀ (ok .in-range i below) in-range in
         record { feature = number-fits i below; upper = bounded-fits (dot-is to to .bound) tt; lower = lit< tt; point-lower = lit< tt }
-    values-fit y (OnEdge i) (outside, below, between) =
+    values-fit y (Feature.Edge i) (outside, below, between) =
         let p = ok .in-range i below in
         let q = ok .in-range _ (next-below (length cs) i (omega arith)) in
         let side = atMost-side p q in-range in
-        let long = bounded-fits (dot-is (span-⇀ p q) (span-⇀ p q) .bound) tt in
+        let long = bounded-fits (length-size ok i below) tt in
         record { feature = number-fits i below; upper = bounded-fits (atMost-* side side) tt; lower = long; point-lower = long }
 
     answers-fit : {a : NearestPoint} → Answers cs v a → NearestFits a
@@ -79,7 +80,7 @@ module _ {cs : List Corner} (ok : Accepted cs) where
 
 pub found-fits : (v : Corner) (s : List ℤ) {a : NearestPoint} → nearestAnswer v s ≡ Found a → NearestFits a
 found-fits v s {a} is =
-    let (ok, in-range, answers) = call-answers v s a .0 is in answers-fit (ok .1) in-range answers
+    let (ok, in-range, answers) = nearest-answers v s a .0 is in answers-fit (ok .1) in-range answers
 
 -- a clearance is not above the gap's upper number
 root-small : (m l : ℕ) → 0 < l → m ≤ m * m * l
@@ -116,13 +117,11 @@ module _ {pair : Pair} (ok : AcceptedPair pair) where
     worst = worst-fits (p .worst) (λ w is. of .worst-counted w is .is-gap);
   }
 
-module _ (s t : List ℤ) (allowance : ℕ) where
-  pub done-fits : {d : Done} → IsComparison s t allowance (IsDone d) → DoneFits d
-  done-fits {d} is =
-      let (ok-a, (ok-b, lawful)) = reported-means s t allowance (ReportDone d) is in
-      of-done-fits (both-accepted _ _ (ok-a .1) (ok-b .1)) (lawful .of-done d refl)
-
-  pub spent-fits : {p : Spent} → IsComparison s t allowance (IsSpent p) → SpentFits p
-  spent-fits {p} is =
-      let (ok-a, (ok-b, lawful)) = reported-means s t allowance (ReportSpent p) is in
-      of-spent-fits (both-accepted _ _ (ok-a .1) (ok-b .1)) (lawful .of-spent p refl)
+pub report-fits : (s t : List ℤ) (allowance : ℕ) (q : Report) → IsComparison s t allowance (Reported q) → ReportFits q
+report-fits s t allowance q is =
+    let (ok-a, (ok-b, lawful)) = reported-means s t allowance q is in
+    by-report (both-accepted _ _ (ok-a .1) (ok-b .1)) q lawful
+  where
+    by-report : {pair : Pair} → AcceptedPair pair → (q : Report) → Law pair allowance q → ReportFits q
+    by-report ok (Report.Spent p) lawful = of-spent-fits ok (lawful .of-spent p refl)
+    by-report ok (Report.Done d) lawful = of-done-fits ok (lawful .of-done d refl)

@@ -16,9 +16,9 @@ use Rattle.nearest.specs.Nearest.{Answers, SquaredDistance}
 use Rattle.nearest.specs.Local.{nearest}
 use Rattle.nearest.proofs.AnswerLaws.{answers-iff, nearest-distance, gap-zero-iff}
 use Rattle.hausdorff.specs.declared.CornerGap.{CornerGap}
-use Rattle.hausdorff.specs.declared.Side.{Side}
+use Rattle.outline.specs.declared.Side.{Side}
 use Rattle.hausdorff.specs.Pair.{Pair, other, Polygons}
-use Rattle.hausdorff.specs.CornerGap.{named, found, cornerGap}
+use Rattle.hausdorff.specs.CornerGap.{withCorner, nearestOf, cornerGap}
 use Rattle.hausdorff.specs.Answer.{IsGap}
 use lib.Dec.{ltb→lt}
 use Rattle.plane.specs.declared.Point.{Point}
@@ -31,13 +31,13 @@ module _ (pair : Pair) (polygons : Polygons pair) where
   -- both say what is nearest to the corner; the rest of w is its name
   pub gap-iff : (w : CornerGap) → IsGap pair w ↔ ((w .corner < length (pair (w .side))) × (w ≡ cornerGap pair (w .side) (w .corner)))
   gap-iff w = (
-    λ is. (is .known, ap (named (w .side) (w .corner)) (meaning .0 (is .answers))),
-    λ (known, is). record { known = known; answers = meaning .1 (ap found is) },
+    λ is. (is .known, ap (withCorner (w .side) (w .corner)) (meaning .0 (is .answers))),
+    λ (known, is). record { known = known; answers = meaning .1 (ap nearestOf is) },
   )
     where
-      meaning : Answers (pair (other (w .side))) (corner (pair (w .side)) (w .corner)) (found w)
-          ↔ (found w ≡ nearest (pair (other (w .side))) (corner (pair (w .side)) (w .corner)))
-      meaning = answers-iff (polygons (other (w .side))) (corner (pair (w .side)) (w .corner)) (found w)
+      meaning : Answers (pair (other (w .side))) (corner (pair (w .side)) (w .corner)) (nearestOf w)
+          ↔ (nearestOf w ≡ nearest (pair (other (w .side))) (corner (pair (w .side)) (w .corner)))
+      meaning = answers-iff (polygons (other (w .side))) (corner (pair (w .side)) (w .corner)) (nearestOf w)
 
   -- `cornerGap` is the gap of the definition
   pub gap-is : (s : Side) (i : ℕ) → i < length (pair s) → IsGap pair (cornerGap pair s i)

@@ -18,11 +18,10 @@ use Rattle.plane.specs.declared.Vector.{Vector}
 use Rattle.plane.specs.Vector.{_⇀_, cross, dot, side, coordinates}
 use Rattle.plane.proofs.Algebra.{O, vec, crossE, dotE, _⇀E_, sideE, apart-0}
 use Rattle.outline.specs.Convex.{Polygon}
-use Rattle.outline.specs.Corners.{next}
+use Rattle.outline.specs.Corners.{next, edge}
 use Rattle.outline.proofs.CornersLaws.{next-below, next-other}
-use Rattle.nearest.specs.Piece.{edge}
 use Rattle.nearest.proofs.Support.{not-right, turns-on}
-use Rattle.nearest.proofs.LocalLaws.{length-above-0}
+use Rattle.outline.proofs.EdgeLaws.{length-above-0}
 use Rattle.plane.proofs.Halves.{NonZero}
 use Rattle.plane.proofs.DirectionLaws.{Before, Along, Apart, not-along-apart, before-asym, before-irrefl, along-iff}
 use Rattle.plane.proofs.DirectionLaws.{cross-between, cross-first, cross-last}

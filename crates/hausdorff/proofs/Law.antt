@@ -7,12 +7,12 @@ use native.Mathlib.Omega.{arith}
 use borrow.Author.Tests.{lt-ltb, le-ltb, ltb-true, ltb-false}
 use lib.Dec.{ltb}
 use Rattle.integers.proofs.RootLaws.{floor-root}
-use Rattle.outline.proofs.Acceptance.{accepted-polygon}
+use Rattle.outline.proofs.EdgeLaws.{accepted-polygon}
 use Rattle.hausdorff.specs.declared.Spent.{Spent}
 use Rattle.hausdorff.specs.declared.Done.{Done}
 use Rattle.hausdorff.specs.declared.CornerGap.{CornerGap}
 use Rattle.hausdorff.specs.declared.Report.{Report}
-use Rattle.hausdorff.specs.declared.Report.the-variants.{Spent as ReportSpent, Done as ReportDone}
+use Rattle.hausdorff.specs.declared.Report.the-variants as Report
 use Rattle.hausdorff.specs.Pair.{Pair, AcceptedPair, Polygons, stepCount}
 use Rattle.hausdorff.specs.Answer.{IsAnswer, TrueFigure}
 use Rattle.hausdorff.specs.Report.{answer, spent, done, report}
@@ -63,14 +63,16 @@ module _ (pair : Pair) (accepted : AcceptedPair pair) (allowance : ℕ) where
 
   -- what is reported by the test whether the allowance is below N
   abbrev reportIf : Bool → Report
-  reportIf t = cond t (ReportSpent (spent pair allowance)) (ReportDone (done pair))
+  reportIf t = cond t (Report.Spent (spent pair allowance)) (Report.Done (done pair))
 
   -- a done report is no spent one, so it tells that the test fails, and a spent one that it holds
-  when-done : (t : Bool) → ltb allowance (stepCount pair) ≡ t → (d : Done) → reportIf t ≡ ReportDone d → OfDone pair allowance d
+  when-done : (t : Bool) → ltb allowance (stepCount pair) ≡ t
+      → (d : Done) → reportIf t ≡ Report.Done d → OfDone pair allowance d
   when-done true holds d is = absurd (let z : _≡_ {A = ℕ} 0 1 = cc in omega arith)
   when-done false fails d is = let same : d ≡ done pair = cc in rw same (of-done (ltb-false _ _ fails))
 
-  when-spent : (t : Bool) → ltb allowance (stepCount pair) ≡ t → (p : Spent) → reportIf t ≡ ReportSpent p → OfSpent pair allowance p
+  when-spent : (t : Bool) → ltb allowance (stepCount pair) ≡ t
+      → (p : Spent) → reportIf t ≡ Report.Spent p → OfSpent pair allowance p
   when-spent true holds p is = let same : p ≡ spent pair allowance = cc in rw same (of-spent (ltb-true _ _ holds))
   when-spent false fails p is = absurd (let z : _≡_ {A = ℕ} 0 1 = cc in omega arith)
 

@@ -16,8 +16,8 @@ use lib.ListN.{length}
 use Rattle.integers.specs.Fraction.{isLess, NotGreater}
 use Rattle.integers.proofs.FractionOrder.{notGreater-trans, isLess-true, isLess-false, less-isLess, notGreater-isLess, less-notGreater}
 use Rattle.hausdorff.specs.declared.CornerGap.{CornerGap}
-use Rattle.hausdorff.specs.declared.Side.{Side}
-use Rattle.hausdorff.specs.declared.Side.the-variants.{A, B}
+use Rattle.outline.specs.declared.Side.{Side}
+use Rattle.outline.specs.declared.Side.the-variants.{A, B}
 use Rattle.hausdorff.specs.Pair.{Pair, Polygons}
 use Rattle.hausdorff.specs.CornerGap.{cornerGap, worse}
 use Rattle.hausdorff.specs.Answer.{IsGap, NotLater, Leads}

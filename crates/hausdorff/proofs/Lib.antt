@@ -1,6 +1,5 @@
 -- The law of demand 3, in the order of the argument; what the call that compares gives, and the sizes of its numbers.
 pub mod GoesRound
-pub mod SortLaws
 pub mod Cyclic
 pub mod OrderLaws
 pub mod LowestLaws

@@ -17,13 +17,13 @@ use Rattle.plane.specs.declared.Vector.{Vector}
 use Rattle.plane.specs.Vector.{_⇀_, cross, side, coordinates}
 use Rattle.plane.proofs.Algebra.{O, vec, crossE, _⇀E_, sideE, components, cross-back}
 use Rattle.outline.specs.Convex.{Polygon}
-use Rattle.outline.specs.Corners.{next, previous}
+use Rattle.outline.specs.Corners.{next, previous, edge}
 use Rattle.outline.proofs.CornersLaws.{next-below, next-other, previous-below, next-previous}
-use Rattle.nearest.specs.Piece.{edge}
 use Rattle.nearest.proofs.Support.{not-right, turns-on}
-use Rattle.hausdorff.specs.declared.Side.{Side}
+use Rattle.outline.specs.declared.Side.{Side}
 use Rattle.hausdorff.specs.Pair.{Pair, Polygons}
-use Rattle.hausdorff.specs.AngularOrder.{angularOrder, own, headOr}
+use Rattle.lists.specs.Lists.{headOr}
+use Rattle.hausdorff.specs.AngularOrder.{angularOrder, own}
 use Rattle.hausdorff.specs.Sweep.{begin}
 use Rattle.hausdorff.specs.Lowest.{LowestLeftmost}
 use Rattle.plane.proofs.Halves.{Half, half, first-up}

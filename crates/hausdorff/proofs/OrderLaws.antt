@@ -23,17 +23,18 @@ use mathlib.Core.List.{Pairwise, Pairwise·nil, Pairwise·imp, Pairwise·and, Pa
 use lib.ListN.{length, length-append}
 use Rattle.integers.proofs.Reflect.{test-and, test-or, test-false}
 use Rattle.plane.specs.Direction.{sameDirection}
-use Rattle.nearest.specs.Piece.{edge}
-use Rattle.hausdorff.specs.declared.Side.{Side}
-use Rattle.hausdorff.specs.declared.Side.the-variants.{A, B}
+use Rattle.outline.specs.Corners.{edge}
+use Rattle.outline.specs.declared.Side.{Side}
+use Rattle.outline.specs.declared.Side.the-variants.{A, B}
 use Rattle.hausdorff.specs.Pair.{Pair, Polygons, sameSide, stepCount}
 use Rattle.hausdorff.specs.AngularOrder.{PairEdge, direction, isAThenB, precedes, edgesBelow, allEdges, angularOrder}
-use Rattle.hausdorff.specs.AngularOrder.{consIf, own, headOr}
+use Rattle.lists.specs.Lists.{headOr}
+use Rattle.hausdorff.specs.AngularOrder.{consIf, own}
 use Rattle.plane.proofs.Halves.{NonZero}
 use Rattle.plane.proofs.DirectionLaws.{Before, before-asym, before-trans, before-split, same-iff, Along}
 use Rattle.hausdorff.proofs.GoesRound.{GoesRound, polygon-goes-round}
-use Rattle.hausdorff.proofs.SortLaws.{related-cons, related-map, arranged-member, arranged-length}
-use Rattle.hausdorff.proofs.SortLaws.{sort-arranges, Sorted, sort-sorted}
+use Rattle.lists.proofs.SortLaws.{related-cons, related-map, arranged-member, arranged-length}
+use Rattle.lists.proofs.SortLaws.{sort-arranges, Sorted, sort-sorted}
 use Rattle.hausdorff.proofs.Cyclic.{Rising, Cyclic, rising-cyclic}
 
 abbrev pub Rounds : Pair → Type 0

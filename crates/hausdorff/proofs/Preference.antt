@@ -17,7 +17,7 @@ use Rattle.integers.specs.Fraction.{isLess, NotGreater}
 use Rattle.integers.proofs.FractionOrder.{notGreater-refl, notGreater-trans, isLess-true, isLess-false, less-notGreater}
 use Rattle.integers.proofs.Greatest.{Greatest, greatest}
 use Rattle.hausdorff.specs.declared.CornerGap.{CornerGap}
-use Rattle.hausdorff.specs.declared.Side.{Side}
+use Rattle.outline.specs.declared.Side.{Side}
 use Rattle.hausdorff.specs.Pair.{Pair, Polygons}
 use Rattle.hausdorff.specs.CornerGap.{cornerGap}
 use Rattle.hausdorff.specs.Worst.{shownNumber, takesPlace}

@@ -14,7 +14,7 @@ use Rattle.outline.specs.Corners.{corner}
 use Rattle.nearest.specs.Piece.{InPiece, Outside, isOutside}
 use Rattle.nearest.specs.Local.{feature}
 use Rattle.nearest.proofs.PieceLaws.{outside-test, inside-test}
-use Rattle.hausdorff.specs.declared.Side.{Side}
+use Rattle.outline.specs.declared.Side.{Side}
 use Rattle.hausdorff.specs.declared.CornerGap.{CornerGap}
 use Rattle.hausdorff.specs.declared.WorstSoFar.{WorstSoFar}
 use Rattle.hausdorff.specs.declared.WorstSoFar.the-variants.{None, Worst}

@@ -14,13 +14,13 @@ use native.Mathlib.Omega.{arith}
 use lib.ListN.{length, take, getD}
 use lib.Seq.{take-length, take-suc}
 use Rattle.plane.specs.declared.Vector.{Vector}
-use Rattle.outline.specs.Corners.{next, previous}
+use Rattle.outline.specs.Corners.{next, previous, edge}
 use Rattle.nearest.specs.declared.Feature.{Feature}
-use Rattle.nearest.specs.Piece.{edge}
-use Rattle.hausdorff.specs.declared.Side.{Side}
-use Rattle.hausdorff.specs.declared.Side.the-variants.{A}
+use Rattle.outline.specs.declared.Side.{Side}
+use Rattle.outline.specs.declared.Side.the-variants.{A}
 use Rattle.hausdorff.specs.Pair.{Pair, other, sameSide, stepCount}
-use Rattle.hausdorff.specs.AngularOrder.{PairEdge, direction, angularOrder, consIf, own, headOr}
+use Rattle.lists.specs.Lists.{headOr}
+use Rattle.hausdorff.specs.AngularOrder.{PairEdge, direction, angularOrder, consIf, own}
 use Rattle.hausdorff.specs.Counted.{Met}
 use Rattle.hausdorff.specs.Sweep.{Sweep, begin, step, steps, after}
 use Rattle.plane.proofs.Halves.{NonZero}

@@ -21,7 +21,7 @@ use Rattle.outline.proofs.CornersLaws.{next-below}
 use Rattle.nearest.specs.Piece.{Outside}
 use Rattle.nearest.specs.Local.{feature}
 use Rattle.nearest.proofs.PieceLaws.{outside-test}
-use Rattle.hausdorff.specs.declared.Side.{Side}
+use Rattle.outline.specs.declared.Side.{Side}
 use Rattle.hausdorff.specs.declared.WorstSoFar.{WorstSoFar}
 use Rattle.hausdorff.specs.declared.WorstSoFar.the-variants.{None, Worst}
 use Rattle.hausdorff.specs.Pair.{Pair, other, sameSide, stepCount, Polygons}
@@ -30,7 +30,7 @@ use Rattle.hausdorff.specs.Counting.{isCounted}
 use Rattle.hausdorff.specs.CornerGap.{cornerGap}
 use Rattle.hausdorff.specs.Worst.{shownNumber, takesPlace, keep}
 use Rattle.hausdorff.specs.Counted.{Met, Counts, Counted}
-use Rattle.hausdorff.specs.Sweep.{Sweep, begin, measured, passed, step, steps, after}
+use Rattle.hausdorff.specs.Sweep.{Sweep, begin, measured, passedSupport, step, steps, after}
 use Rattle.hausdorff.proofs.OrderLaws.{order-length}
 use Rattle.hausdorff.proofs.Extreme.{AtSupport}
 use Rattle.hausdorff.proofs.LowestLaws.{begins-lowest}
@@ -124,8 +124,9 @@ module _ (pair : Pair) (polygons : Polygons pair) where
   begin-below s = begins-lowest pair polygons s .known
 
   -- and passing an edge leads to a corner of its outline
-  passed-below : (support : Side → ℕ) → Supported pair support → (e : PairEdge) → Supported pair (passed pair e support)
-  passed-below support known e s = go (sameSide s (e .side))
+  passedSupport-below : (support : Side → ℕ) → Supported pair support → (e : PairEdge)
+      → Supported pair (passedSupport pair e support)
+  passedSupport-below support known e s = go (sameSide s (e .side))
     where
       go : (t : Bool) → cond t (next (length (pair s)) (e .number)) (support s) < length (pair s)
       go true = next-below (length (pair s)) (e .number) (omega (arith, known s))
@@ -135,7 +136,7 @@ module _ (pair : Pair) (polygons : Polygons pair) where
   steps-below : (es : List PairEdge) (sweep : Sweep) → Supported pair (sweep .support) → Supported pair (steps pair es sweep .support)
   unfolding steps step
   steps-below [] sweep known = known
-  steps-below (e ∷ es) sweep known = steps-below es (step pair e sweep) (passed-below (sweep .support) known e)
+  steps-below (e ∷ es) sweep known = steps-below es (step pair e sweep) (passedSupport-below (sweep .support) known e)
 
   pub support-known : (k : ℕ) (s : Side) → after pair k .support s < length (pair s)
   support-known k = steps-below (take k (angularOrder pair)) (begin pair) begin-below
@@ -145,13 +146,14 @@ module _ (pair : Pair) (polygons : Polygons pair) where
       → (es : List PairEdge) (support : Side → ℕ) → Supported pair support → Met pair P es support → Met pair Q es support
   met-map f [] support known none = none
   met-map f (e ∷ es) support known (inl here) = inl (f support known here)
-  met-map f (e ∷ es) support known (inr later) = inr (met-map f es (passed pair e support) (passed-below support known e) later)
+  met-map f (e ∷ es) support known (inr later) =
+      inr (met-map f es (passedSupport pair e support) (passedSupport-below support known e) later)
 
   -- what does not depend on the step holds if it is met
   met-some : {T : Type 0} (es : List PairEdge) (support : Side → ℕ) → Met pair (λ t. T) es support → T
   met-some [] support none = absurd none
   met-some (e ∷ es) support (inl here) = here
-  met-some (e ∷ es) support (inr later) = met-some es (passed pair e support) later
+  met-some (e ∷ es) support (inr later) = met-some es (passedSupport pair e support) later
 
   module _ (s : Side) (i : ℕ) where
     -- it is the first test of `isCounted`

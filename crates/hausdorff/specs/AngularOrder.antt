@@ -2,21 +2,20 @@
 --     PairEdge        an edge of one of the two outlines: its side and its number
 --     direction       its differences, whose direction counts
 --     precedes        it comes before another in the order: by direction, and at equal direction A's before B's (`isAThenB`)
---     insert, sort    sorting by insertion
 --     edgesBelow      the edges of a side with numbers below n
 --     allEdges        all edges of both outlines
 --     angularOrder    all edges by direction; at equal direction A's edge comes first
 --     consIf          a number before a list, if a test holds
 --     own             the numbers of one side's edges in a list of edges, in its order
---     headOr          the first of a list, or another number
 use Prim.Native.Nat.{ℕ, zero, suc}
-use mathlib.Core.Bool.{Bool, true, false, cond, _&&_, _||_}
+use mathlib.Core.Bool.{Bool, true, false, _&&_, _||_}
 use mathlib.Core.List.{List, [], _∷_, _++_}
+use Rattle.lists.specs.Lists.{sort}
 use Rattle.plane.specs.declared.Vector.{Vector}
 use Rattle.plane.specs.Direction.{isBefore, sameDirection}
-use Rattle.nearest.specs.Piece.{edge}
-use Rattle.hausdorff.specs.declared.Side.{Side}
-use Rattle.hausdorff.specs.declared.Side.the-variants.{A, B}
+use Rattle.outline.specs.Corners.{edge}
+use Rattle.outline.specs.declared.Side.{Side}
+use Rattle.outline.specs.declared.Side.the-variants.{A, B}
 use Rattle.hausdorff.specs.Pair.{Pair, sameSide, edgeCount}
 
 pub record PairEdge : Type 0 where
@@ -38,15 +37,6 @@ precedes pair e f =
     isBefore (direction pair e) (direction pair f)
     || (sameDirection (direction pair e) (direction pair f) && isAThenB (e .side) (f .side))
 
--- before the first element that x is to come before
-unfoldable pub insert : {X : Type 0} → (X → X → Bool) → X → List X → List X
-insert before x [] = x ∷ []
-insert before x (y ∷ ys) = cond (before x y) (x ∷ y ∷ ys) (y ∷ insert before x ys)
-
-unfoldable pub sort : {X : Type 0} → (X → X → Bool) → List X → List X
-sort before [] = []
-sort before (x ∷ xs) = insert before x (sort before xs)
-
 -- the edges of a side below n
 unfoldable pub edgesBelow : Side → ℕ → List PairEdge
 edgesBelow s zero = []
@@ -65,8 +55,3 @@ consIf false i is = is
 unfoldable pub own : Side → List PairEdge → List ℕ
 own s [] = []
 own s (e ∷ es) = consIf (sameSide s (e .side)) (e .number) (own s es)
-
--- the first of a list, or z
-abbrev pub headOr : ℕ → List ℕ → ℕ
-headOr z [] = z
-headOr z (i ∷ is) = i

@@ -12,15 +12,15 @@ use Rattle.integers.specs.declared.fraction.Fraction.{Fraction}
 use Rattle.integers.specs.Fraction.{NotGreater}
 use Rattle.outline.specs.Corners.{corner}
 use Rattle.nearest.specs.Nearest.{Answers}
-use Rattle.hausdorff.specs.declared.Side.{Side}
-use Rattle.hausdorff.specs.declared.Side.the-variants.{A, B}
+use Rattle.outline.specs.declared.Side.{Side}
+use Rattle.outline.specs.declared.Side.the-variants.{A, B}
 use Rattle.hausdorff.specs.declared.CornerGap.{CornerGap}
 use Rattle.hausdorff.specs.Pair.{Pair, other}
-use Rattle.hausdorff.specs.CornerGap.{found}
+use Rattle.hausdorff.specs.CornerGap.{nearestOf}
 
 pub record IsGap (pair : Pair) (w : CornerGap) : Type 0 where
   pub known : w .corner < length (pair (w .side))
-  pub answers : Answers (pair (other (w .side))) (corner (pair (w .side)) (w .corner)) (found w)
+  pub answers : Answers (pair (other (w .side))) (corner (pair (w .side)) (w .corner)) (nearestOf w)
 
 abbrev pub NotLater : Side → ℕ → Side → ℕ → Type 0
 NotLater A i A j = i ≤ j

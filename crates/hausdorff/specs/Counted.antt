@@ -9,15 +9,15 @@ use mathlib.Core.Bool.{true}
 use mathlib.Core.List.{List, [], _∷_}
 use lib.ListN.{take}
 use Rattle.outline.specs.Corners.{corner}
-use Rattle.hausdorff.specs.declared.Side.{Side}
+use Rattle.outline.specs.declared.Side.{Side}
 use Rattle.hausdorff.specs.Pair.{Pair, other}
 use Rattle.hausdorff.specs.AngularOrder.{PairEdge, angularOrder}
 use Rattle.hausdorff.specs.Counting.{isCounted}
-use Rattle.hausdorff.specs.Sweep.{begin, passed}
+use Rattle.hausdorff.specs.Sweep.{begin, passedSupport}
 
 abbrev pub Met : Pair → ((Side → ℕ) → Type 0) → List PairEdge → (Side → ℕ) → Type 0
 Met pair Holds [] support = ⊥
-Met pair Holds (e ∷ es) support = Holds support ⊎ Met pair Holds es (passed pair e support)
+Met pair Holds (e ∷ es) support = Holds support ⊎ Met pair Holds es (passedSupport pair e support)
 
 abbrev pub Counts : Pair → Side → ℕ → (Side → ℕ) → Type 0
 Counts pair s i support = (support s ≡ i) × (isCounted (pair (other s)) (support (other s)) (corner (pair s) i) ≡ true)

@@ -15,8 +15,8 @@ use Rattle.plane.specs.declared.Corner.{Corner}
 use Rattle.plane.specs.declared.Point.{Point}
 use Rattle.plane.specs.Point.{whole, _⇢_}
 use Rattle.plane.specs.Vector.{dot}
-use Rattle.outline.specs.Corners.{corner, next, previous}
-use Rattle.nearest.specs.Piece.{edge, sideOf, isOutside}
+use Rattle.outline.specs.Corners.{corner, next, previous, edge}
+use Rattle.nearest.specs.Piece.{sideOf, isOutside}
 use Rattle.nearest.specs.Local.{nearest}
 
 abbrev pub isSame : Point → Point → Bool

@@ -6,14 +6,14 @@ use Prim.Native.Nat.{ℕ, zero, suc}
 use lib.ListN.{length}
 use Rattle.outline.specs.Corners.{corner}
 use Rattle.nearest.specs.Search.{search}
-use Rattle.hausdorff.specs.declared.Side.{Side}
-use Rattle.hausdorff.specs.declared.Side.the-variants.{A, B}
+use Rattle.outline.specs.declared.Side.{Side}
+use Rattle.outline.specs.declared.Side.the-variants.{A, B}
 use Rattle.hausdorff.specs.declared.CornerGap.{CornerGap}
 use Rattle.hausdorff.specs.Pair.{Pair, other}
-use Rattle.hausdorff.specs.CornerGap.{named, worse}
+use Rattle.hausdorff.specs.CornerGap.{withCorner, worse}
 
 abbrev pub searched : Pair → Side → ℕ → CornerGap
-searched pair s i = named s i (search (pair (other s)) (corner (pair s) i))
+searched pair s i = withCorner s i (search (pair (other s)) (corner (pair s) i))
 
 unfoldable pub tryCorners : Pair → Side → CornerGap → ℕ → CornerGap
 tryCorners pair s worst zero = worst

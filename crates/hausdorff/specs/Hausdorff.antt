@@ -13,7 +13,7 @@ use Rattle.plane.specs.declared.Point.{Point}
 use Rattle.plane.specs.Point.{_⇢_}
 use Rattle.plane.specs.Vector.{dot}
 use Rattle.nearest.specs.Piece.{InPiece}
-use Rattle.hausdorff.specs.declared.Side.{Side}
+use Rattle.outline.specs.declared.Side.{Side}
 use Rattle.hausdorff.specs.Pair.{Pair, other}
 
 -- |p - q|², for points with lower numbers above 0

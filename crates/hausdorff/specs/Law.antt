@@ -11,13 +11,13 @@ use Rattle.plane.specs.declared.Point.{Point}
 use Rattle.plane.specs.Point.{whole, NotFarther}
 use Rattle.outline.specs.Corners.{corner}
 use Rattle.nearest.specs.Piece.{InPiece}
-use Rattle.hausdorff.specs.declared.Side.{Side}
+use Rattle.outline.specs.declared.Side.{Side}
 use Rattle.hausdorff.specs.declared.CornerGap.{CornerGap}
 use Rattle.hausdorff.specs.declared.WorstSoFar.the-variants.{None, Worst}
 use Rattle.hausdorff.specs.declared.Spent.{Spent}
 use Rattle.hausdorff.specs.declared.Done.{Done}
 use Rattle.hausdorff.specs.declared.Report.{Report}
-use Rattle.hausdorff.specs.declared.Report.the-variants.{Spent as ReportSpent, Done as ReportDone}
+use Rattle.hausdorff.specs.declared.Report.the-variants as Report
 use Rattle.hausdorff.specs.Pair.{Pair, other, stepCount}
 use Rattle.hausdorff.specs.Answer.{Leads, IsAnswer, TrueFigure}
 use Rattle.hausdorff.specs.Hausdorff.{Hausdorff}
@@ -54,9 +54,9 @@ pub record OfSpent (pair : Pair) (allowance : ℕ) (p : Spent) : Type 0 where
 
 pub record Law (pair : Pair) (allowance : ℕ) (result : Report) : Type 0 where
   -- spent exactly below N and else done, each with its report as laid down
-  pub spent-below : allowance < stepCount pair → result ≡ ReportSpent (spent pair allowance)
-  pub else-done : stepCount pair ≤ allowance → result ≡ ReportDone (done pair)
+  pub spent-below : allowance < stepCount pair → result ≡ Report.Spent (spent pair allowance)
+  pub else-done : stepCount pair ≤ allowance → result ≡ Report.Done (done pair)
   -- the answer when done is the trial's and the one that "Gap of one corner" defines
-  pub of-done : (d : Done) → result ≡ ReportDone d → OfDone pair allowance d
+  pub of-done : (d : Done) → result ≡ Report.Done d → OfDone pair allowance d
   -- the worst so far when spent is the greatest that counts in the steps made, and never above the true figure
-  pub of-spent : (p : Spent) → result ≡ ReportSpent p → OfSpent pair allowance p
+  pub of-spent : (p : Spent) → result ≡ Report.Spent p → OfSpent pair allowance p

@@ -13,8 +13,8 @@ use mathlib.Core.List.{List}
 use lib.ListN.{length}
 use Rattle.plane.specs.declared.Corner.{Corner}
 use Rattle.outline.specs.Convex.{Accepted, Polygon}
-use Rattle.hausdorff.specs.declared.Side.{Side}
-use Rattle.hausdorff.specs.declared.Side.the-variants.{A, B}
+use Rattle.outline.specs.declared.Side.{Side}
+use Rattle.outline.specs.declared.Side.the-variants.{A, B}
 
 abbrev pub Pair : Type 0
 Pair = Side → List Corner

@@ -13,16 +13,16 @@ use Rattle.integers.specs.Root.{root, FloorRoot}
 use Rattle.plane.specs.declared.Corner.{Corner}
 use Rattle.outline.specs.Corners.{corner}
 use Rattle.nearest.specs.Feature.{withinValues}
-use Rattle.hausdorff.specs.declared.Side.the-variants.{A, B}
+use Rattle.outline.specs.declared.Side.the-variants.{A, B}
 use Rattle.hausdorff.specs.declared.CornerGap.{CornerGap}
 use Rattle.hausdorff.specs.declared.WorstSoFar.{WorstSoFar}
 use Rattle.hausdorff.specs.declared.WorstSoFar.the-variants.{None, Worst}
 use Rattle.hausdorff.specs.declared.Spent.{Spent}
 use Rattle.hausdorff.specs.declared.Done.{Done}
 use Rattle.hausdorff.specs.declared.Report.{Report}
-use Rattle.hausdorff.specs.declared.Report.the-variants.{Spent as ReportSpent, Done as ReportDone}
+use Rattle.hausdorff.specs.declared.Report.the-variants as Report
 use Rattle.hausdorff.specs.Pair.{Pair, stepCount}
-use Rattle.hausdorff.specs.CornerGap.{named}
+use Rattle.hausdorff.specs.CornerGap.{withCorner}
 use Rattle.hausdorff.specs.Sweep.{after, worstSoFar}
 
 abbrev pub IsClearance : Fraction → ℕ → Type 0
@@ -33,7 +33,7 @@ abbrev pub clearance : Fraction → ℕ
 clearance g = root (g .upper / g .lower)
 
 abbrev pub orWithin : Corner → WorstSoFar → CornerGap
-orWithin first None = named A 0 (withinValues first)
+orWithin first None = withCorner A 0 (withinValues first)
 orWithin first (Worst w) = w
 
 abbrev pub answer : Pair → CornerGap
@@ -52,4 +52,5 @@ abbrev pub done : Pair → Done
 done pair = record { steps = stepCount pair; answer = answer pair; clearance = clearance (answer pair .gap) }
 
 unfoldable pub report : Pair → ℕ → Report
-report pair allowance = cond (ltb allowance (stepCount pair)) (ReportSpent (spent pair allowance)) (ReportDone (done pair))
+report pair allowance =
+    cond (ltb allowance (stepCount pair)) (Report.Spent (spent pair allowance)) (Report.Done (done pair))

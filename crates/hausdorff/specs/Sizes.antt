@@ -13,7 +13,9 @@ use Rattle.hausdorff.specs.declared.WorstSoFar.{WorstSoFar}
 use Rattle.hausdorff.specs.declared.WorstSoFar.the-variants.{None, Worst}
 use Rattle.hausdorff.specs.declared.Spent.{Spent}
 use Rattle.hausdorff.specs.declared.Done.{Done}
-use Rattle.hausdorff.specs.CornerGap.{found}
+use Rattle.hausdorff.specs.declared.Report.{Report}
+use Rattle.hausdorff.specs.declared.Report.the-variants as Report
+use Rattle.hausdorff.specs.CornerGap.{nearestOf}
 
 abbrev pub FitsI64 : ℕ → Type 0
 FitsI64 n = n < 2 ^ 63
@@ -31,7 +33,7 @@ pub record NearestFits (a : NearestPoint) : Type 0 where
 
 pub record CornerFits (w : CornerGap) : Type 0 where
   pub corner : FitsI64 (w .corner)
-  pub nearest : NearestFits (found w)
+  pub nearest : NearestFits (nearestOf w)
 
 abbrev pub WorstFits : WorstSoFar → Type 0
 WorstFits None = Unit {0}
@@ -45,3 +47,7 @@ pub record SpentFits (p : Spent) : Type 0 where
   pub support-a : FitsI64 (p .support .a)
   pub support-b : FitsI64 (p .support .b)
   pub worst : WorstFits (p .worst)
+
+abbrev pub ReportFits : Report → Type 0
+ReportFits (Report.Spent p) = SpentFits p
+ReportFits (Report.Done d) = DoneFits d

@@ -1,23 +1,25 @@
 -- Document 01: the sweep.
---     Sweep         what it knows: the support corner (document 01: corner in touch) and the worst so far of each side
---     begin         before step 1
---     measured      what measuring finds of a side: its support corner if it counts, or none
---     measure       measuring, both ways
---     passed, pass  the support corners after an edge was passed; passing it
---     step, steps   step k first measures and then passes the k-th edge
---     after         the sweep after k steps
---     worstSoFar    the worst of both sides
+--     Sweep            what it knows of each side: support corner (document 01: corner in touch) and worst so far
+--     begin            before step 1
+--     measured         what measuring finds of a side: its support corner if it counts, or none
+--     measure          measuring, both ways
+--     passedSupport    the support corners after an edge was passed
+--     pass             passing it
+--     step, steps      step k first measures and then passes the k-th edge
+--     after            the sweep after k steps
+--     worstSoFar       the worst of both sides
 use Prim.Native.Nat.{ℕ}
 use mathlib.Core.Bool.{cond}
 use mathlib.Core.List.{List, [], _∷_}
 use lib.ListN.{length, take}
 use Rattle.outline.specs.Corners.{corner, next}
-use Rattle.hausdorff.specs.declared.Side.{Side}
-use Rattle.hausdorff.specs.declared.Side.the-variants.{A, B}
+use Rattle.outline.specs.declared.Side.{Side}
+use Rattle.outline.specs.declared.Side.the-variants.{A, B}
 use Rattle.hausdorff.specs.declared.WorstSoFar.{WorstSoFar}
 use Rattle.hausdorff.specs.declared.WorstSoFar.the-variants.{None, Worst}
 use Rattle.hausdorff.specs.Pair.{Pair, other, sameSide}
-use Rattle.hausdorff.specs.AngularOrder.{PairEdge, angularOrder, own, headOr}
+use Rattle.lists.specs.Lists.{headOr}
+use Rattle.hausdorff.specs.AngularOrder.{PairEdge, angularOrder, own}
 use Rattle.hausdorff.specs.Counting.{isCounted}
 use Rattle.hausdorff.specs.CornerGap.{cornerGap}
 use Rattle.hausdorff.specs.Worst.{shownNumber, keep, overall}
@@ -43,11 +45,11 @@ measure pair sweep = record {
 }
 
 -- passing an edge moves that outline's support corner to the end of the edge
-abbrev pub passed : Pair → PairEdge → (Side → ℕ) → Side → ℕ
-passed pair e support s = cond (sameSide s (e .side)) (next (length (pair s)) (e .number)) (support s)
+abbrev pub passedSupport : Pair → PairEdge → (Side → ℕ) → Side → ℕ
+passedSupport pair e support s = cond (sameSide s (e .side)) (next (length (pair s)) (e .number)) (support s)
 
 abbrev pub pass : Pair → PairEdge → Sweep → Sweep
-pass pair e sweep = record { support = passed pair e (sweep .support); worst = sweep .worst }
+pass pair e sweep = record { support = passedSupport pair e (sweep .support); worst = sweep .worst }
 
 unfoldable pub step : Pair → PairEdge → Sweep → Sweep
 step pair e sweep = pass pair e (measure pair sweep)

@@ -3,13 +3,8 @@
 use integers::fraction::Fraction;
 use nearest::Feature;
 use outline::Refusal;
+use outline::Side;
 use plane::Point;
-
-// One of the two outlines that are compared.
-pub enum Side {
-    A,
-    B,
-}
 
 // A corner of one outline with its gap to the other: side, corner, nearest feature, gap and nearest point.
 pub struct CornerGap {
@@ -55,6 +50,5 @@ pub enum Report {
 // What comparing two lists gives. Being spent is no refusal.
 pub enum Comparison {
     Refused(Refusal),
-    Spent(Spent),
-    Done(Done),
+    Reported(Report),
 }

@@ -6,7 +6,7 @@
 --   ≤ℤ-or-<ℤ ≮ℤ-≤ℤ ≰ℤ-<ℤ                    the order is total
 --   ≤ℤ-trans <ℤ-trans ≤ℤ-<ℤ-trans <ℤ-≤ℤ ≤ℤ-antisym
 --   <ℤ-sucℤ sucℤ-<ℤ                         a < b is a + 1 ≤ b
---   ≤ℤ-sub <ℤ-sub sub-≤ℤ sub-<ℤ             an order is the sign of the difference
+--   ≤ℤ-sub <ℤ-sub sub-<ℤ                    an order is the sign of the difference
 --   +ℤ-mono-≤ +ℤ-mono-<-≤ +ℤ-mono-≤-<       sums keep the order
 --   *ℤ-nonneg *ℤ-pos square-nonneg          signs of products
 --   natAbs-nonneg                           a number that is not negative is its own size
@@ -165,9 +165,6 @@ pub ≤ℤ-sub : {a b : ℤ} → a ≤ℤ b → pos 0 ≤ℤ (b -ℤ a)
 
 pub <ℤ-sub : {a b : ℤ} → a <ℤ b → pos 0 <ℤ (b -ℤ a)
 <ℤ-sub {a} {b} h = subst (λ x. x <ℤ (b -ℤ a)) (+ℤ-invr a) (+ℤ-mono-<-≤ h (≤ℤ-refl (negℤ a)))
-
-pub sub-≤ℤ : {a b : ℤ} → pos 0 ≤ℤ (b -ℤ a) → a ≤ℤ b
-sub-≤ℤ {a} {b} h = subst₂ _≤ℤ_ (+ℤ-idl a) (-ℤ-+ℤ-cancel b a) (+ℤ-mono-≤ h (≤ℤ-refl a))
 
 pub sub-<ℤ : {a b : ℤ} → pos 0 <ℤ (b -ℤ a) → a <ℤ b
 sub-<ℤ {a} {b} h = subst₂ _<ℤ_ (+ℤ-idl a) (-ℤ-+ℤ-cancel b a) (+ℤ-mono-<-≤ h (≤ℤ-refl a))

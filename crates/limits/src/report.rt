@@ -1,31 +1,16 @@
 // The lines of the program: a name, then `taken` or `refused` with document 01's number and place, then how many corners
 // were read, or the list that was lent to a removal.
-use outline::Place;
 use outline::Refusal;
 use outline::Verdict;
+use text::output::Text;
 
-// A refusal's place: one number, or an edge and a corner.
-fn print_place(place: Place) {
-    match place {
-        Place::Nowhere => {}
-        Place::At(number) => {
-            print::text(b" at ");
-            print::natural(number as u64);
-        }
-        Place::EdgeAndCorner(edge, corner) => {
-            print::text(b" at ");
-            print::natural(edge as u64);
-            print::text(b" ");
-            print::natural(corner as u64);
-        }
-    }
-}
-
+// The number and the place. A call with one outline names no side.
 fn print_refusal(refusal: Refusal) {
-    print::text(b"refused ");
-    print::natural(refusal.number as u64);
     let place = refusal.place;
-    print_place(place);
+    let t = Text::empty()
+        .bytes(b"refused ")
+        .natural(refusal.number as u64);
+    print::write(answer_text::place(t, b" at ", place));
 }
 
 fn print_verdict(name: &[u8], verdict: Verdict) {

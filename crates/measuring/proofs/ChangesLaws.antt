@@ -5,33 +5,34 @@ use Prim.Native.Nat.{ℕ}
 use mathlib.Core.Path.{_≡_, refl}
 use mathlib.Core.Bool.{Bool, true, false, cond}
 use Rattle.plane.specs.declared.Corner.{Corner}
-use Rattle.hausdorff.specs.declared.Side.{Side}
+use Rattle.outline.specs.declared.Side.{Side}
 use Rattle.hausdorff.specs.declared.CornerGap.{CornerGap}
 use Rattle.hausdorff.specs.declared.WorstSoFar.{WorstSoFar}
 use Rattle.hausdorff.specs.declared.WorstSoFar.the-variants.{None, Worst}
-use Rattle.hausdorff.specs.CornerGap.{named}
+use Rattle.hausdorff.specs.CornerGap.{withCorner}
 use Rattle.hausdorff.specs.Worst.{keep}
 use Rattle.measuring.specs.declared.Window.{Window}
-use Rattle.measuring.specs.declared.Near.{Near}
-use Rattle.measuring.specs.Near.{isNone, nearValues, nearWorst}
+use Rattle.measuring.specs.declared.LocalFeature.{LocalFeature}
+use Rattle.measuring.specs.LocalFeature.{isNotCounted, localValues, localWorst}
 use Rattle.measuring.specs.Changes.{isWorse, changesOn, changes}
 
 -- What is kept goes by the test: where none is found, or `new` is not worse, the old stays.
-kept : (none : Bool) (new : CornerGap) (old : WorstSoFar)
+keep-by-test : (none : Bool) (new : CornerGap) (old : WorstSoFar)
     → keep (λ (j : ℕ). j) old (cond none None (Worst new))
     ≡ cond (cond none false (changesOn (new .gap) (new .corner) old)) (Worst new) old
-kept true new None = refl
-kept true new (Worst old) = refl
-kept false new None = refl
-kept false new (Worst old) = go (isWorse (new .gap) (new .corner) old)
+keep-by-test true new None = refl
+keep-by-test true new (Worst old) = refl
+keep-by-test false new None = refl
+keep-by-test false new (Worst old) = go (isWorse (new .gap) (new .corner) old)
   where
     go : (t : Bool) → Worst (cond t new old) ≡ cond t (Worst new) (Worst old)
     go true = refl
     go false = refl
 
-module _ (s : Side) (i : ℕ) (v : Corner) (w : Window) (f : Near) (old : WorstSoFar) where
-  pub keeps-old : changes i v w f old ≡ false → keep (λ (j : ℕ). j) old (nearWorst s i v w f) ≡ old
-  keeps-old fails = rw (kept (isNone f) (named s i (nearValues v w f)) old, fails)
+module _ (s : Side) (i : ℕ) (v : Corner) (w : Window) (f : LocalFeature) (old : WorstSoFar) where
+  pub keeps-old : changes i v w f old ≡ false → keep (λ (j : ℕ). j) old (localWorst s i v w f) ≡ old
+  keeps-old fails = rw (keep-by-test (isNotCounted f) (withCorner s i (localValues v w f)) old, fails)
 
-  pub takes-new : changes i v w f old ≡ true → keep (λ (j : ℕ). j) old (nearWorst s i v w f) ≡ Worst (named s i (nearValues v w f))
-  takes-new holds = rw (kept (isNone f) (named s i (nearValues v w f)) old, holds)
+  pub takes-new : changes i v w f old ≡ true
+      → keep (λ (j : ℕ). j) old (localWorst s i v w f) ≡ Worst (withCorner s i (localValues v w f))
+  takes-new holds = rw (keep-by-test (isNotCounted f) (withCorner s i (localValues v w f)) old, holds)

@@ -10,11 +10,11 @@ use Rattle.measuring.specs.declared.Window.{Window}
 use Rattle.measuring.specs.Window.{IsWindow}
 
 pub record WindowInRange (w : Window) : Type 0 where
-  pub farbefore : InRange (w .farbefore)
+  pub earlier : InRange (w .earlier)
   pub before : InRange (w .before)
   pub corner : InRange (w .corner)
   pub after : InRange (w .after)
-  pub farafter : InRange (w .farafter)
+  pub later : InRange (w .later)
 
 module _ {w : Window} (window : IsWindow w) where
   pub window-count : w .count ≡ length (window .outline)
@@ -28,9 +28,9 @@ module _ {w : Window} (window : IsWindow w) where
   window-range =
       let known = window .known in let all = window .accepted .in-range in
       subst WindowInRange (sym (window .equal)) (record {
-        farbefore = all _ (before-below refl (before-below refl known));
+        earlier = all _ (before-below refl (before-below refl known));
         before = all _ (before-below refl known);
         corner = all _ known;
         after = all _ (after-below refl known);
-        farafter = all _ (after-below refl (after-below refl known));
+        later = all _ (after-below refl (after-below refl known));
       })

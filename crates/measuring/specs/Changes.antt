@@ -14,8 +14,8 @@ use Rattle.hausdorff.specs.declared.CornerGap.{CornerGap}
 use Rattle.hausdorff.specs.declared.WorstSoFar.{WorstSoFar}
 use Rattle.hausdorff.specs.declared.WorstSoFar.the-variants.{None, Worst}
 use Rattle.measuring.specs.declared.Window.{Window}
-use Rattle.measuring.specs.declared.Near.{Near}
-use Rattle.measuring.specs.Near.{isNone, nearValues}
+use Rattle.measuring.specs.declared.LocalFeature.{LocalFeature}
+use Rattle.measuring.specs.LocalFeature.{isNotCounted, localValues}
 
 abbrev pub BoundedWorst : WorstSoFar → Type 0
 BoundedWorst None = Unit {0}
@@ -29,5 +29,5 @@ abbrev pub changesOn : Fraction → ℕ → WorstSoFar → Bool
 changesOn gap i None = true
 changesOn gap i (Worst old) = isWorse gap i old
 
-abbrev pub changes : ℕ → Corner → Window → Near → WorstSoFar → Bool
-changes i v w f old = cond (isNone f) false (changesOn (nearValues v w f .gap) i old)
+abbrev pub changes : ℕ → Corner → Window → LocalFeature → WorstSoFar → Bool
+changes i v w f old = cond (isNotCounted f) false (changesOn (localValues v w f .gap) i old)

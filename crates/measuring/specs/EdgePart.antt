@@ -1,5 +1,5 @@
--- The tests by which measuring finds the nearest feature. For the code alone: `proofs/NearLaws.antt` shows what they find.
---     isRightOf       v is strictly right of an edge at a corner
+-- The tests by which measuring finds the nearest feature. For the code alone: `proofs/LocalFeatureLaws.antt` shows what
+-- they find.
 --     endIsNearest    v, whose foot is not before the end of an edge, is nearest to this end
 --     edgePart        the part of an edge at the support corner that v is nearest to
 --     cornerIf        what is found for v whose feet are at the support corner, or off both edges on that side
@@ -9,44 +9,42 @@ use lib.IntN.{pos}
 use lib.Signed.{leZ, ltZ}
 use Rattle.plane.specs.declared.Corner.{Corner}
 use Rattle.plane.specs.declared.Vector.{Vector}
-use Rattle.plane.specs.Vector.{_⇀_, cross, dot}
+use Rattle.plane.specs.Vector.{_⇀_, dot, isLeft, isRight}
 use Rattle.projection.specs.declared.local.Part.{Part}
 use Rattle.projection.specs.declared.local.Part.the-variants.{None, Start, Between, End}
-use Rattle.measuring.specs.declared.Near.{Near}
-use Rattle.measuring.specs.declared.Near.the-variants.{None as NotNear, Corner as TheCorner, EdgeAfter, EdgeBefore}
-use Rattle.measuring.specs.declared.Near.the-variants.{CornerAfter, CornerBefore}
+use Rattle.measuring.specs.declared.LocalFeature.{LocalFeature}
+use Rattle.measuring.specs.declared.LocalFeature.the-variants as LocalFeature
 
--- `run` and `to` lead from the corner to the edge's other end and to v; `isAfter`: it is the edge after the corner. The edge before runs to
--- the corner, against `run`, and so its right is the left of `run`
-abbrev pub isRightOf : Bool → Vector → Vector → Bool
-isRightOf isAfter run to = cond isAfter (ltZ (cross run to) (pos 0)) (ltZ (pos 0) (cross run to))
-
--- on the edge from `end` to `beyond` the foot is not past `end` either, and v is strictly right of that edge or of the first (`isRight`)
+-- on the edge between `end` and `beyond` the foot is not past `end` either, and v is strictly right of that edge or of
+-- the first (`right`). `isAfter`: it is the edge after `end`. The edge before runs from `beyond` to `end`, and so its
+-- right is the left of the line from `end` to `beyond`
 abbrev pub endIsNearest : Corner → Bool → Bool → Corner → Corner → Bool
-endIsNearest v isRight isAfter end beyond =
-    leZ (dot (end ⇀ v) (end ⇀ beyond)) (pos 0) && (isRight || isRightOf isAfter (end ⇀ beyond) (end ⇀ v))
+endIsNearest v right isAfter end beyond =
+    leZ (dot (end ⇀ v) (end ⇀ beyond)) (pos 0)
+    && (right || cond isAfter (isRight end (end ⇀ beyond) v) (isLeft end (end ⇀ beyond) v))
 
--- `to` and `run` lead from the support corner to v and to the other end of the edge, which is `end`; `isRight`: v is strictly right of the
--- edge. Start: the foot is at the support corner, or off the edge on that side; None: v is nearest to none of the edge's parts
+-- `to` and `run` lead from the support corner to v and to the other end of the edge, which is `end`; `right`: v is
+-- strictly right of the edge. Start: the foot is at the support corner, or off the edge on that side; None: v is
+-- nearest to none of the edge's parts
 abbrev pub edgePart : Corner → Vector → Vector → Bool → Bool → Corner → Corner → Part
-edgePart v to run isRight isAfter end beyond =
+edgePart v to run right isAfter end beyond =
     cond (leZ (dot to run) (pos 0)) Start
-    (cond (ltZ (dot to run) (dot run run)) (cond isRight Between None)
-    (cond (endIsNearest v isRight isAfter end beyond) End None))
+    (cond (ltZ (dot to run) (dot run run)) (cond right Between None)
+    (cond (endIsNearest v right isAfter end beyond) End None))
 
 -- of such points the support corner itself alone is strictly right of neither edge
-abbrev pub cornerIf : Bool → Bool → Near
-cornerIf rightAfter rightBefore = cond (rightAfter || rightBefore) TheCorner NotNear
+abbrev pub cornerIf : Bool → Bool → LocalFeature
+cornerIf rightAfter rightBefore = cond (rightAfter || rightBefore) LocalFeature.Corner LocalFeature.NotCounted
 
 -- `corner` is what is found if both parts are Start
-abbrev pub byParts : Part → Part → Near → Near
-byParts Between g corner = EdgeAfter
-byParts End g corner = CornerAfter
+abbrev pub byParts : Part → Part → LocalFeature → LocalFeature
+byParts Between g corner = LocalFeature.EdgeAfter
+byParts End g corner = LocalFeature.CornerAfter
 byParts Start Start corner = corner
-byParts Start Between corner = EdgeBefore
-byParts Start End corner = CornerBefore
-byParts Start None corner = NotNear
-byParts None Start corner = NotNear
-byParts None Between corner = EdgeBefore
-byParts None End corner = CornerBefore
-byParts None None corner = NotNear
+byParts Start Between corner = LocalFeature.EdgeBefore
+byParts Start End corner = LocalFeature.CornerBefore
+byParts Start None corner = LocalFeature.NotCounted
+byParts None Start corner = LocalFeature.NotCounted
+byParts None Between corner = LocalFeature.EdgeBefore
+byParts None End corner = LocalFeature.CornerBefore
+byParts None None corner = LocalFeature.NotCounted

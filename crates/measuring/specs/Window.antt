@@ -14,11 +14,11 @@ abbrev pub windowAt : List Corner → ℕ → Window
 windowAt cs b = record {
   count = length cs;
   number = b;
-  farbefore = corner cs (previous (length cs) (previous (length cs) b));
+  earlier = corner cs (previous (length cs) (previous (length cs) b));
   before = corner cs (previous (length cs) b);
   corner = corner cs b;
   after = corner cs (next (length cs) b);
-  farafter = corner cs (next (length cs) (next (length cs) b));
+  later = corner cs (next (length cs) (next (length cs) b));
 }
 
 pub record IsWindow (w : Window) : Type 0 where

@@ -1,11 +1,11 @@
 // Measuring a corner of one outline against the support corner of the other.
 use hausdorff::CornerGap;
-use hausdorff::Side;
 use hausdorff::WorstSoFar;
 use integers::fraction;
 use integers::fraction::Fraction;
 use integers::fraction::Order;
 use nearest::NearestPoint;
+use outline::Side;
 use plane::Corner;
 use plane::Vector;
 use projection::answers;
@@ -15,29 +15,29 @@ ghost use mathlib.Core.Path.{_≡_};
 ghost use Prim.Native.Nat.{ℕ};
 ghost use Rattle.integers.specs.Fraction.{Bounded};
 ghost use Rattle.plane.specs.Range.{InRange, Span, reach};
-ghost use Rattle.hausdorff.specs.CornerGap.{named};
+ghost use Rattle.hausdorff.specs.CornerGap.{withCorner};
 ghost use Rattle.hausdorff.specs.Worst.{keep};
 ghost use Rattle.measuring.specs.Window.{IsWindow};
-ghost use Rattle.measuring.specs.Near.{featureOf, countedFeature, isNone, nearValues, nearWorst};
-ghost use Rattle.measuring.specs.EdgePart.{isRightOf, endIsNearest, edgePart, cornerIf, byParts};
+ghost use Rattle.measuring.specs.LocalFeature.{featureOf, countedFeature, isNotCounted, localValues, localWorst};
+ghost use Rattle.measuring.specs.EdgePart.{endIsNearest, edgePart, cornerIf, byParts};
 ghost use Rattle.measuring.specs.Changes.{BoundedWorst, isWorse, changes};
 
-// What a step sees of an outline: how many corners it has, its support corner with its number, and the two corners on either side,
-// counted round the outline.
+// What a step sees of an outline: how many corners it has, its support corner with its number, and the two corners on
+// either side, counted round the outline: `earlier` is the corner before `before`, `later` the corner after `after`.
 pub struct Window {
     pub count: usize,
     pub number: usize,
-    pub farbefore: Corner,
+    pub earlier: Corner,
     pub before: Corner,
     pub corner: Corner,
     pub after: Corner,
-    pub farafter: Corner,
+    pub later: Corner,
 }
 
-// The nearest feature to a point, where it is at the support corner: this corner, an edge that meets there, or that edge's other end.
-// None: it is another, or the point is within.
-pub enum Near {
-    None,
+// The nearest feature to a point, where it is at the support corner: this corner, an edge that meets there, or that
+// edge's other end. NotCounted: it is another, or the point is within.
+pub enum LocalFeature {
+    NotCounted,
     Corner,
     EdgeAfter,
     EdgeBefore,
@@ -45,23 +45,10 @@ pub enum Near {
     CornerBefore,
 }
 
-// Whether v is strictly right of an edge at a corner: `run` and `to` lead from the corner to the edge's other end and to v.
-// is_after: it is the edge after the corner. The edge before runs to the corner, against `run`, and so its right is the left of `run`.
-fn is_right_of(is_after: bool, run: Vector, to: Vector) -> bool
-    requires { ⌜ Span reach run ⌝ }
-    requires { ⌜ Span reach to ⌝ }
-    ensures { λ r. ⌜ r ≡ isRightOf «is_after» run to ⌝ }
-{
-    let s = plane::side(run, to);
-    if is_after {
-        return s < 0;
-    }
-    0 < s
-}
-
 // Whether v, whose foot is not before the end of an edge, is nearest to this end: on the edge from there to `beyond` its foot is not past
 // `end` either, and v is not `end` itself, which alone of such points is strictly right of neither edge.
-// is_right: v is strictly right of the first edge; is_after: that to `beyond` is the edge after `end`.
+// is_right: v is strictly right of the first edge; is_after: the other is the edge after `end`. The edge before `end`
+// runs from `beyond` to it, and so its right is the left of the line from `end` to `beyond`.
 fn end_is_nearest(v: Corner, is_right: bool, is_after: bool, end: Corner, beyond: Corner) -> bool
     requires { ⌜ InRange v ⌝ }
     requires { ⌜ InRange end ⌝ }
@@ -76,7 +63,10 @@ fn end_is_nearest(v: Corner, is_right: bool, is_after: bool, end: Corner, beyond
     if is_right {
         return true;
     }
-    is_right_of(is_after, run, to)
+    if is_after {
+        return plane::is_right(end, run, v);
+    }
+    plane::is_left(end, run, v)
 }
 
 // The part of an edge at the support corner that v is nearest to: `to` and `run` lead from this corner to v and to the edge's other end,
@@ -117,42 +107,42 @@ fn edge_part(
 
 // What is found for v whose feet are at the support corner, or off both edges on that side: this corner, if v is strictly right of one of
 // them. Of such points the corner itself alone is not.
-fn corner_if(right_after: bool, right_before: bool) -> Near
+fn corner_if(right_after: bool, right_before: bool) -> LocalFeature
     ensures { λ r. ⌜ r ≡ cornerIf «right_after» «right_before» ⌝ }
 {
     if right_after {
-        return Near::Corner;
+        return LocalFeature::Corner;
     }
     if right_before {
-        return Near::Corner;
+        return LocalFeature::Corner;
     }
-    Near::None
+    LocalFeature::NotCounted
 }
 
 // What the parts of the edge after the support corner and of the edge before it tell; `corner` is what is found if both are Start.
-fn by_parts(after: Part, before: Part, corner: Near) -> Near
+fn by_parts(after: Part, before: Part, corner: LocalFeature) -> LocalFeature
     ensures { λ r. ⌜ r ≡ byParts after before corner ⌝ }
 {
     match after {
-        Part::Between => Near::EdgeAfter,
-        Part::End => Near::CornerAfter,
+        Part::Between => LocalFeature::EdgeAfter,
+        Part::End => LocalFeature::CornerAfter,
         Part::Start => match before {
             Part::Start => corner,
-            Part::Between => Near::EdgeBefore,
-            Part::End => Near::CornerBefore,
-            Part::None => Near::None,
+            Part::Between => LocalFeature::EdgeBefore,
+            Part::End => LocalFeature::CornerBefore,
+            Part::None => LocalFeature::NotCounted,
         },
         Part::None => match before {
-            Part::Start => Near::None,
-            Part::Between => Near::EdgeBefore,
-            Part::End => Near::CornerBefore,
-            Part::None => Near::None,
+            Part::Start => LocalFeature::NotCounted,
+            Part::Between => LocalFeature::EdgeBefore,
+            Part::End => LocalFeature::CornerBefore,
+            Part::None => LocalFeature::NotCounted,
         },
     }
 }
 
 // The nearest feature to v, if v counts.
-pub fn find(v: Corner, w: Window) -> Near
+pub fn local_feature(v: Corner, w: Window) -> LocalFeature
     requires { ⌜ InRange v ⌝ }
     requires { ⌜ IsWindow w ⌝ }
     ensures { λ r. ⌜ ((window : IsWindow w) → featureOf w r ≡ countedFeature (window .outline) (w .number) v) ⌝ }
@@ -160,18 +150,10 @@ pub fn find(v: Corner, w: Window) -> Near
     let to = plane::difference(w.corner, v);
     let run_before = plane::difference(w.corner, w.before);
     let run_after = plane::difference(w.corner, w.after);
-    let right_before = is_right_of(false, run_before, to);
-    let right_after = is_right_of(true, run_after, to);
-    let part_before = edge_part(
-        v,
-        to,
-        run_before,
-        right_before,
-        false,
-        w.before,
-        w.farbefore,
-    );
-    let part_after = edge_part(v, to, run_after, right_after, true, w.after, w.farafter);
+    let right_before = plane::is_left(w.corner, run_before, v);
+    let right_after = plane::is_right(w.corner, run_after, v);
+    let part_before = edge_part(v, to, run_before, right_before, false, w.before, w.earlier);
+    let part_after = edge_part(v, to, run_after, right_after, true, w.after, w.later);
     by_parts(
         part_after,
         part_before,
@@ -179,35 +161,40 @@ pub fn find(v: Corner, w: Window) -> Near
     )
 }
 
-// The gap and the nearest point of what `find` found.
-fn values(v: Corner, w: Window, f: Near) -> NearestPoint
+// The gap and the nearest point of what `local_feature` found.
+fn local_values(v: Corner, w: Window, f: LocalFeature) -> NearestPoint
     requires { ⌜ InRange v ⌝ }
     requires { ⌜ IsWindow w ⌝ }
-    ensures { λ r. ⌜ r ≡ nearValues v w f ⌝ }
+    ensures { λ r. ⌜ r ≡ localValues v w f ⌝ }
 {
     let n = w.count;
     let b = w.number;
     match f {
-        Near::None => answers::within(v),
-        Near::Corner => answers::at_corner(v, b, w.corner),
-        Near::EdgeAfter => answers::on_edge(v, b, w.corner, w.after),
-        Near::EdgeBefore => answers::on_edge(v, corners::previous(n, b), w.before, w.corner),
-        Near::CornerAfter => answers::at_corner(v, corners::next(n, b), w.after),
-        Near::CornerBefore => answers::at_corner(v, corners::previous(n, b), w.before),
+        LocalFeature::NotCounted => answers::within(v),
+        LocalFeature::Corner => answers::at_corner(v, b, w.corner),
+        LocalFeature::EdgeAfter => answers::on_edge(v, b, w.corner, w.after),
+        LocalFeature::EdgeBefore => answers::on_edge(
+            v,
+            corners::previous(n, b),
+            w.before,
+            w.corner,
+        ),
+        LocalFeature::CornerAfter => answers::at_corner(v, corners::next(n, b), w.after),
+        LocalFeature::CornerBefore => answers::at_corner(v, corners::previous(n, b), w.before),
     }
 }
 
-// Whether `find` found nothing.
-fn is_none(f: Near) -> bool
-    ensures { λ r. ⌜ r ≡ isNone f ⌝ }
+// Whether `local_feature` found that v does not count.
+fn is_not_counted(f: LocalFeature) -> bool
+    ensures { λ r. ⌜ r ≡ isNotCounted f ⌝ }
 {
     match f {
-        Near::None => true,
-        Near::Corner => false,
-        Near::EdgeAfter => false,
-        Near::EdgeBefore => false,
-        Near::CornerAfter => false,
-        Near::CornerBefore => false,
+        LocalFeature::NotCounted => true,
+        LocalFeature::Corner => false,
+        LocalFeature::EdgeAfter => false,
+        LocalFeature::EdgeBefore => false,
+        LocalFeature::CornerAfter => false,
+        LocalFeature::CornerBefore => false,
     }
 }
 
@@ -224,25 +211,25 @@ fn is_worse(gap: Fraction, number: usize, old: CornerGap) -> bool
     }
 }
 
-// Whether the worst so far of a side changes when its support corner, v, is measured; f is what `find` found.
-pub fn changes(number: usize, v: Corner, w: Window, f: Near, old: WorstSoFar) -> bool
+// Whether the worst so far of a side changes when its support corner, v, is measured; f is what `local_feature` found.
+pub fn changes(number: usize, v: Corner, w: Window, f: LocalFeature, old: WorstSoFar) -> bool
     requires { ⌜ InRange v ⌝ }
     requires { ⌜ IsWindow w ⌝ }
     requires { ⌜ BoundedWorst old ⌝ }
     ensures { λ r. ⌜ r ≡ changes number v w f old ⌝ }
 {
-    if is_none(f) {
+    if is_not_counted(f) {
         return false;
     }
     match old {
         WorstSoFar::None => true,
-        WorstSoFar::Worst(o) => is_worse(values(v, w, f).gap, number, o),
+        WorstSoFar::Worst(o) => is_worse(local_values(v, w, f).gap, number, o),
     }
 }
 
-// An answer of the nearest point, with the side and the number of the corner that it is for.
-pub fn named(side: Side, number: usize, a: NearestPoint) -> CornerGap
-    ensures { λ r. ⌜ r ≡ named side number a ⌝ }
+// A nearest point with the side and the number of the corner that it is for.
+pub fn with_corner(side: Side, number: usize, a: NearestPoint) -> CornerGap
+    ensures { λ r. ⌜ r ≡ withCorner side number a ⌝ }
 {
     let feature = a.feature;
     let gap = a.gap;
@@ -256,22 +243,22 @@ pub fn named(side: Side, number: usize, a: NearestPoint) -> CornerGap
     }
 }
 
-// The worst so far of a side once its support corner, v, is measured; f is what `find` found.
-pub fn measure(
+// The worst so far of a side once its support corner, v, is measured; f is what `local_feature` found.
+pub fn keep(
     side: Side,
     number: usize,
     v: Corner,
     w: Window,
-    f: Near,
+    f: LocalFeature,
     old: WorstSoFar,
 ) -> WorstSoFar
     requires { ⌜ InRange v ⌝ }
     requires { ⌜ IsWindow w ⌝ }
     requires { ⌜ BoundedWorst old ⌝ }
-    ensures { λ r. ⌜ r ≡ keep (λ (i : ℕ). i) old (nearWorst side number v w f) ⌝ }
+    ensures { λ r. ⌜ r ≡ keep (λ (i : ℕ). i) old (localWorst side number v w f) ⌝ }
 {
     if !changes(number, v, w, f, old) {
         return old;
     }
-    WorstSoFar::Worst(named(side, number, values(v, w, f)))
+    WorstSoFar::Worst(with_corner(side, number, local_values(v, w, f)))
 }

@@ -9,7 +9,7 @@
 --     foot-at-start, foot-at-end   a foot that falls on an end is a corner
 use Prim.Native.Nat.{ℕ, _<_}
 use mathlib.Core.Path.{_≡_, refl, sym, ap, subst, _∙_}
-use mathlib.Core.Logic.{_↔_, ⊎-elim}
+use mathlib.Core.Logic.{_↔_, ⊎-elim, _≢_, _⊎_, inl, inr}
 use mathlib.Core.Bool.{Bool, true, false, cond}
 use mathlib.Core.List.{List, [], _∷_}
 use native.Mathlib.Omega.{arith}
@@ -19,6 +19,7 @@ use lib.Signed.{_<ℤ_, ≤ℤ-refl}
 use Rattle.integers.proofs.Polynomial.{var, lit, _⊗_}
 use Rattle.integers.proofs.Certificate.{_≺_, _≗_, hyp, eqn, _⊞_, _⊠_, refute}
 use Rattle.integers.proofs.Order.{natAbs-nonneg, square-nonneg}
+use Rattle.lists.proofs.FirstLaws.{Priority, fold-found}
 use Rattle.plane.specs.declared.Corner.{Corner}
 use Rattle.plane.specs.Point.{whole}
 use Rattle.plane.proofs.Points.{same-refl, whole-proper}
@@ -28,13 +29,13 @@ use Rattle.outline.specs.Convex.{Polygon}
 use Rattle.outline.specs.Corners.{corner, next}
 use Rattle.outline.proofs.CornersLaws.{next-below, previous-next}
 use Rattle.nearest.specs.declared.Feature.{Feature}
-use Rattle.nearest.specs.declared.Feature.the-variants.{Within, Corner as AtCorner, Edge as OnEdge}
+use Rattle.nearest.specs.declared.Feature.the-variants as Feature
 use Rattle.nearest.specs.declared.NearestPoint.{NearestPoint}
 use Rattle.nearest.specs.Piece.{InPiece}
 use Rattle.nearest.specs.Feature.{values}
 use Rattle.nearest.specs.Nearest.{SquaredDistance, Answers}
-use Rattle.nearest.specs.Local.{squaredLength, along, isCorner, isEdge, Tested, featureAt, feature, nearest}
-use Rattle.nearest.proofs.FirstOf.{firstOf-found}
+use Rattle.nearest.specs.Local.{squaredLength, along, isCorner, isEdge, Tested}
+use Rattle.nearest.specs.Local.{featureAt, _orNext_, feature, nearest}
 use Rattle.nearest.proofs.DistanceLaws.{Known, squared-distance}
 use Rattle.nearest.proofs.FitsLaws.{fits-unique}
 use Rattle.nearest.proofs.LocalLaws.{corner-nearest, edge-nearest, none-holds}
@@ -42,18 +43,32 @@ use Rattle.nearest.proofs.Walk.{corner-test, edge-test, square-at-start
 use Rattle.nearest.proofs.Support.{turns-left, turns-on}
 use Rattle.nearest.proofs.NearestLaws.{nearest-self, nearest-unique}
 
+-- the first that is not Within
+priority : Priority _orNext_ Feature.Within
+priority = record { decide = decide; stops = stops; goes-on = λ g. refl }
+  where
+    decide : (f : Feature) → (f ≡ Feature.Within) ⊎ (f ≢ Feature.Within)
+    decide Feature.Within = inl refl
+    decide (Feature.Corner i) = inr λ e. let z : _≡_ {A = ℕ} 0 1 = cc in omega arith
+    decide (Feature.Edge i) = inr λ e. let z : _≡_ {A = ℕ} 0 1 = cc in omega arith
+
+    stops : (f g : Feature) → f ≢ Feature.Within → f orNext g ≡ f
+    stops Feature.Within g some = absurd (some refl)
+    stops (Feature.Corner i) g some = refl
+    stops (Feature.Edge i) g some = refl
+
 -- what is found at corner i, by the answers of its two tests
 abbrev found : ℕ → Bool → Bool → Feature
-found i c e = cond c (AtCorner i) (cond e (OnEdge i) Within)
+found i c e = cond c (Feature.Corner i) (cond e (Feature.Edge i) Feature.Within)
 
 module _ (cs : List Corner) (v : Corner) where
-  found-none : (i : ℕ) (c e : Bool) → found i c e ≡ Within → (c ≡ false) × (e ≡ false)
+  found-none : (i : ℕ) (c e : Bool) → found i c e ≡ Feature.Within → (c ≡ false) × (e ≡ false)
   found-none i true e none = (cc, cc)
   found-none i false true none = (refl, cc)
   found-none i false false none = (refl, refl)
 
   found-some : (i : ℕ) → i < length cs → (c e : Bool) → isCorner cs v i ≡ c → isEdge cs v i ≡ e
-      → ¬ (found i c e ≡ Within) → Tested cs v (found i c e)
+      → ¬ (found i c e ≡ Feature.Within) → Tested cs v (found i c e)
   found-some i below true e corner edge some = (below, corner)
   found-some i below false true corner edge some = (below, edge)
   found-some i below false false corner edge some = absurd (some refl)
@@ -62,18 +77,20 @@ module _ (cs : List Corner) (v : Corner) where
   unfolding feature
   feature-tested = ⊎-elim
       (λ (none, fails). subst (Tested cs v) (sym none) (λ i below. found-none i (isCorner cs v i) (isEdge cs v i) (fails i below)))
-      (λ (i, below, first, some). subst (Tested cs v) (sym first) (found-some i below (isCorner cs v i) (isEdge cs v i) refl refl some))
-      (firstOf-found (featureAt cs v) (length cs))
+      (λ (some, first). (let i = first .place in subst (Tested cs v) (first .here)
+      (found-some i (first .below) (isCorner cs v i) (isEdge cs v i) refl refl
+      (λ none. some (sym (first .here) ∙ none)))))
+      (fold-found priority (featureAt cs v) (length cs))
 
 values-feature : (cs : List Corner) (v : Corner) (f : Feature) → values cs v f .feature ≡ f
-values-feature cs v Within = refl
-values-feature cs v (AtCorner i) = refl
-values-feature cs v (OnEdge i) = refl
+values-feature cs v Feature.Within = refl
+values-feature cs v (Feature.Corner i) = refl
+values-feature cs v (Feature.Edge i) = refl
 
 tested-known : (cs : List Corner) (v : Corner) (f : Feature) → Tested cs v f → Known cs f
-tested-known cs v Within holds = tt
-tested-known cs v (AtCorner i) holds = holds .0
-tested-known cs v (OnEdge i) holds = holds .0
+tested-known cs v Feature.Within holds = tt
+tested-known cs v (Feature.Corner i) holds = holds .0
+tested-known cs v (Feature.Edge i) holds = holds .0
 
 -- a number below 0 has a square above 0
 no-square : (s : ℤ) → s <ℤ pos 0 → s *ℤ s ≡ pos 0 → ⊥
@@ -81,13 +98,13 @@ no-square s = refute (s ∷ []) (var 0 ≺ O ∷ var 0 ⊗ var 0 ≗ O ∷ []) (
 
 module _ {cs : List Corner} (polygon : Polygon cs) (v : Corner) where
   pub tested-answers : (f : Feature) → Tested cs v f → Answers cs v (values cs v f)
-  tested-answers Within none =
+  tested-answers Feature.Within none =
       let inside = none-holds polygon v (λ i below. none i below .0) (λ i below. none i below .1) in
       record { nearest = nearest-self inside; fits = (inside, same-refl (whole v)); written = refl }
-  tested-answers (AtCorner i) (below, holds) =
+  tested-answers (Feature.Corner i) (below, holds) =
       let (nearest, outside) = corner-nearest polygon v i below holds in
       record { nearest = nearest; fits = (outside, below, same-refl (whole (corner cs i))); written = refl }
-  tested-answers (OnEdge i) (below, holds) =
+  tested-answers (Feature.Edge i) (below, holds) =
       let (nearest, between, outside) = edge-nearest polygon v i below holds in
       record { nearest = nearest; fits = (outside, below, between); written = refl }
 
@@ -120,16 +137,16 @@ module _ {cs : List Corner} (polygon : Polygon cs) (v : Corner) where
   pub local-agrees : (f : Feature) → Tested cs v f ↔ Answers cs v (values cs v f)
   local-agrees f = (tested-answers f, λ is. feature-iff f .0 (answers-feature f is))
 
-  pub within-iff : (feature cs v ≡ Within) ↔ InPiece cs (whole v)
+  pub within-iff : (feature cs v ≡ Feature.Within) ↔ InPiece cs (whole v)
   within-iff = (
-    λ is. tested-answers Within (feature-iff Within .0 is) .fits .0,
+    λ is. tested-answers Feature.Within (feature-iff Feature.Within .0 is) .fits .0,
     λ inside. is-within inside (feature cs v) (feature-tested cs v),
   )
     where
-      is-within : InPiece cs (whole v) → (f : Feature) → Tested cs v f → f ≡ Within
-      is-within inside Within holds = refl
-      is-within inside (AtCorner i) holds = absurd (tested-answers (AtCorner i) holds .fits .0 inside)
-      is-within inside (OnEdge i) holds = absurd (tested-answers (OnEdge i) holds .fits .0 inside)
+      is-within : InPiece cs (whole v) → (f : Feature) → Tested cs v f → f ≡ Feature.Within
+      is-within inside Feature.Within holds = refl
+      is-within inside (Feature.Corner i) holds = absurd (tested-answers (Feature.Corner i) holds .fits .0 inside)
+      is-within inside (Feature.Edge i) holds = absurd (tested-answers (Feature.Edge i) holds .fits .0 inside)
 
   pub gap-zero-iff : (nearest cs v .gap .upper ≡ 0) ↔ InPiece cs (whole v)
   gap-zero-iff = (
@@ -137,13 +154,13 @@ module _ {cs : List Corner} (polygon : Polygon cs) (v : Corner) where
     λ inside. ap (λ (f : Feature). values cs v f .gap .upper) (within-iff .1 inside),
   )
     where
-      is-within : (f : Feature) → Tested cs v f → values cs v f .gap .upper ≡ 0 → f ≡ Within
-      is-within Within holds none = refl
-      is-within (AtCorner i) (below, holds) none =
+      is-within : (f : Feature) → Tested cs v f → values cs v f .gap .upper ≡ 0 → f ≡ Feature.Within
+      is-within Feature.Within holds none = refl
+      is-within (Feature.Corner i) (below, holds) none =
           let c = corner cs i in
           absurd (corner-test v _ c _ .0 holds .0 .0
           (apart-0 c v (rw (sym (natAbs-nonneg (dot-self (c ⇀ v))) ∙ ap pos none) (≤ℤ-refl (pos 0)))))
-      is-within (OnEdge i) (below, holds) none =
+      is-within (Feature.Edge i) (below, holds) none =
           let s = side (corner cs i) (corner cs (next (length cs) i)) v in
           absurd (no-square s (edge-test v _ _ .0 holds .0) (sym (natAbs-nonneg (square-nonneg s)) ∙ ap pos none))
 
@@ -154,14 +171,15 @@ module _ {cs : List Corner} (polygon : Polygon cs) (v : Corner) where
     abbrev q : Corner
     q = corner cs (next (length cs) i)
 
-    pub foot-at-start : side p q v <ℤ pos 0 → along p q v ≡ pos 0 → feature cs v ≡ AtCorner i
+    pub foot-at-start : side p q v <ℤ pos 0 → along p q v ≡ pos 0 → feature cs v ≡ Feature.Corner i
     foot-at-start visible at-start =
         let (other, before, after) = square-at-start v _ p q (turns-left polygon i below) visible at-start in
-        feature-iff (AtCorner i) .1 (below, corner-test v _ p q .1 ((other, before), after))
+        feature-iff (Feature.Corner i) .1 (below, corner-test v _ p q .1 ((other, before), after))
 
-    pub foot-at-end : side p q v <ℤ pos 0 → along p q v ≡ squaredLength p q → feature cs v ≡ AtCorner (next (length cs) i)
+    pub foot-at-end : side p q v <ℤ pos 0 → along p q v ≡ squaredLength p q
+        → feature cs v ≡ Feature.Corner (next (length cs) i)
     foot-at-end visible at-end =
         let n = length cs in let j = next n i in let known = next-below n i (omega arith) in
         let (other, before, after) = square-at-end v p q (corner cs (next n j)) (turns-on polygon i below) visible at-end in
-        feature-iff (AtCorner j) .1
+        feature-iff (Feature.Corner j) .1
         (known, corner-test v _ q _ .1 ((other, rw (previous-next n i below) before), after))

@@ -9,7 +9,7 @@ use mathlib.Core.Path.{_≡_}
 use mathlib.Core.Logic.{_↔_, Iff·trans}
 use mathlib.Core.List.{List, [], _∷_}
 use lib.Dec.{T}
-use lib.IntN.{ℤ, pos, natAbs, _+ℤ_, _-ℤ_, _*ℤ_}
+use lib.IntN.{ℤ, pos, _+ℤ_, _-ℤ_, _*ℤ_}
 use lib.ListN.{length}
 use lib.Signed.{_≤ℤ_, _<ℤ_, clashℤ}
 use Rattle.integers.specs.declared.fraction.Fraction.{Fraction}
@@ -25,18 +25,17 @@ use Rattle.plane.specs.Vector.{_⇀_, cross, dot, coordinates}
 use Rattle.plane.proofs.Algebra.{O, vec, crossE, dotE, _⇀E_, dot-self}
 use Rattle.plane.proofs.Points.{PointE, wholeE, _⇢E_, whole-proper, whole-⇢}
 use Rattle.outline.specs.Convex.{Polygon}
-use Rattle.outline.specs.Corners.{corner}
+use Rattle.outline.specs.Corners.{corner, edge}
 use Rattle.nearest.specs.declared.Feature.{Feature}
-use Rattle.nearest.specs.declared.Feature.the-variants.{Within, Corner as AtCorner, Edge as OnEdge}
-use Rattle.nearest.specs.Piece.{edge}
+use Rattle.nearest.specs.declared.Feature.the-variants as Feature
 use Rattle.nearest.specs.Feature.{values}
 use Rattle.nearest.specs.Nearest.{SquaredDistance}
-use Rattle.nearest.proofs.LocalLaws.{length-above-0}
+use Rattle.outline.proofs.EdgeLaws.{lower-above-0}
 
 abbrev pub Known : List Corner → Feature → Type 0
-Known cs Within = Unit {0}
-Known cs (AtCorner i) = i < length cs
-Known cs (OnEdge i) = i < length cs
+Known cs Feature.Within = Unit {0}
+Known cs (Feature.Corner i) = i < length cs
+Known cs (Feature.Edge i) = i < length cs
 
 -- n is the squared distance of two points with whole coordinates
 whole-distance : (c v : Corner) {n : ℤ} → n ≡ dot (c ⇀ v) (c ⇀ v)
@@ -66,20 +65,18 @@ foot-distance p e v square length =
 module _ {cs : List Corner} (polygon : Polygon cs) (v : Corner) where
   -- the gap and the point have the same lower number, 1 or an edge's squared length
   lowers : (f : Feature) → Known cs f → (pos 0 <ℤ pos (values cs v f .gap .lower)) × Proper (values cs v f .point)
-  lowers Within known = (whole-proper v, whole-proper v)
-  lowers (AtCorner i) known = (whole-proper v, whole-proper v)
-  lowers (OnEdge i) known =
-      let long : pos 0 <ℤ pos (natAbs (dot (edge cs i) (edge cs i))) =
-      rw (natAbs-nonneg (dot-self (edge cs i))) (length-above-0 polygon i known) in
-      (long, long)
+  lowers Feature.Within known = (whole-proper v, whole-proper v)
+  lowers (Feature.Corner i) known = (whole-proper v, whole-proper v)
+  lowers (Feature.Edge i) known =
+      let long = lower-above-0 polygon i known in (long, long)
 
   equal : (f : Feature)
       → pos (values cs v f .gap .upper) *ℤ (pos (values cs v f .point .lower) *ℤ pos 1) *ℤ (pos (values cs v f .point .lower) *ℤ pos 1)
       ≡ dot (values cs v f .point ⇢ whole v) (values cs v f .point ⇢ whole v) *ℤ pos (values cs v f .gap .lower)
   unfolding dot _⇀_ _⇢_
-  equal Within = whole-distance v v (solve (coordinates (v ∷ [])) O (dotE (vec 0 ⇀E vec 0) (vec 0 ⇀E vec 0)) tt)
-  equal (AtCorner i) = whole-distance (corner cs i) v (natAbs-nonneg (dot-self (corner cs i ⇀ v)))
-  equal (OnEdge i) =
+  equal Feature.Within = whole-distance v v (solve (coordinates (v ∷ [])) O (dotE (vec 0 ⇀E vec 0) (vec 0 ⇀E vec 0)) tt)
+  equal (Feature.Corner i) = whole-distance (corner cs i) v (natAbs-nonneg (dot-self (corner cs i ⇀ v)))
+  equal (Feature.Edge i) =
       foot-distance (corner cs i) (edge cs i) v
       (natAbs-nonneg (square-nonneg (cross (edge cs i) (corner cs i ⇀ v)))) (natAbs-nonneg (dot-self (edge cs i)))
 
@@ -100,10 +97,10 @@ module _ {v y z : Point} {g h : Fraction} (at-y : SquaredDistance v y g) (at-z :
       let d = var 4 in let e = var 5 in let r = var 6 in let s = var 7 in let t = var 8 in
       let numbers : List ℤ = pos (g .upper) ∷ pos (g .lower) ∷ pos (h .upper) ∷ pos (h .lower)
       ∷ dot (y ⇢ v) (y ⇢ v) ∷ dot (z ⇢ v) (z ⇢ v) ∷ pos (y .lower) ∷ pos (z .lower) ∷ pos (v .lower) ∷ [] in
-      let known : Claim → List Claim = λ c. a ⊗ (r ⊗ t) ⊗ (r ⊗ t) ≗ d ⊗ k ∷ b ⊗ (s ⊗ t) ⊗ (s ⊗ t) ≗ e ⊗ l
+      let hypotheses : Claim → List Claim = λ c. a ⊗ (r ⊗ t) ⊗ (r ⊗ t) ≗ d ⊗ k ∷ b ⊗ (s ⊗ t) ⊗ (s ⊗ t) ≗ e ⊗ l
       ∷ O ≺ k ∷ O ≺ l ∷ O ≺ r ∷ O ≺ s ∷ O ≺ t ∷ c ∷ [] in
-      let from : (c goal : Claim) (w : Cert) → T (proves (known c) goal w) → Holds numbers c → Holds numbers goal = λ c goal w sound.
-      prove numbers (known c) goal w sound (at-y .equal) (at-z .equal)
+      let from : (c goal : Claim) (w : Cert) → T (proves (hypotheses c) goal w) → Holds numbers c → Holds numbers goal =
+      λ c goal w sound. prove numbers (hypotheses c) goal w sound (at-y .equal) (at-z .equal)
       (at-y .lower-positive) (at-z .lower-positive) (at-y .to-proper) (at-z .to-proper) (at-y .from-proper) in
       let at-most = a ⊗ l ≼ b ⊗ k in let not-farther = d ⊗ (s ⊗ s) ≼ e ⊗ (r ⊗ r) in
       Iff·trans (≤-≤ℤ (g .upper * h .lower) (h .upper * g .lower)) (

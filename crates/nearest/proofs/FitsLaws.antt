@@ -21,11 +21,11 @@ use Rattle.plane.specs.Vector.{_⇀_, cross, dot, coordinates}
 use Rattle.plane.proofs.Algebra.{O, vec, crossE, dotE, _⇀E_, components}
 use Rattle.plane.proofs.Points.{pt, wholeE, _⇢E_, numbers, whole-proper, whole-⇢, same-sym}
 use Rattle.outline.specs.Convex.{Polygon}
-use Rattle.outline.specs.Corners.{corner, next}
+use Rattle.outline.specs.Corners.{corner, next, edge}
 use Rattle.outline.proofs.CornersLaws.{next-below, next-other, next-next-other}
 use Rattle.nearest.specs.declared.Feature.{Feature}
-use Rattle.nearest.specs.declared.Feature.the-variants.{Within, Corner as AtCorner, Edge as OnEdge}
-use Rattle.nearest.specs.Piece.{edge, sideOf}
+use Rattle.nearest.specs.declared.Feature.the-variants as Feature
+use Rattle.nearest.specs.Piece.{sideOf}
 use Rattle.nearest.specs.Nearest.{Fits, Between}
 use Rattle.nearest.proofs.Support.{corner-in-piece}
 
@@ -133,19 +133,19 @@ module _ {cs : List Corner} (polygon : Polygon cs) where
   -- Two features of one point are the same.
   pub fits-unique : (v : Point) {y z : Point} (f g : Feature) → Proper y → Proper z → Same y z
       → Fits cs v y f → Fits cs v z g → f ≡ g
-  fits-unique v Within Within y-proper z-proper same fits also = refl
-  fits-unique v Within (AtCorner j) y-proper z-proper same fits also = absurd (also .0 (fits .0))
-  fits-unique v Within (OnEdge j) y-proper z-proper same fits also = absurd (also .0 (fits .0))
-  fits-unique v (AtCorner i) Within y-proper z-proper same fits also = absurd (fits .0 (also .0))
-  fits-unique v (OnEdge i) Within y-proper z-proper same fits also = absurd (fits .0 (also .0))
-  fits-unique v (AtCorner i) (AtCorner j) y-proper z-proper same (_, below, here) (_, j-below, there) =
-      ap AtCorner (each-other (length cs) i j (polygon .at-least)
+  fits-unique v Feature.Within Feature.Within y-proper z-proper same fits also = refl
+  fits-unique v Feature.Within (Feature.Corner j) y-proper z-proper same fits also = absurd (also .0 (fits .0))
+  fits-unique v Feature.Within (Feature.Edge j) y-proper z-proper same fits also = absurd (also .0 (fits .0))
+  fits-unique v (Feature.Corner i) Feature.Within y-proper z-proper same fits also = absurd (fits .0 (also .0))
+  fits-unique v (Feature.Edge i) Feature.Within y-proper z-proper same fits also = absurd (fits .0 (also .0))
+  fits-unique v (Feature.Corner i) (Feature.Corner j) y-proper z-proper same (_, below, here) (_, j-below, there) =
+      ap Feature.Corner (each-other (length cs) i j (polygon .at-least)
       (corner-line i below j z-proper j-below there (through (edge cs i) (corner cs i) y-proper same here))
       (corner-line j j-below i y-proper below here (through (edge cs j) (corner cs j) z-proper (same-sym same) there)))
-  fits-unique v (AtCorner i) (OnEdge j) y-proper z-proper same (_, below, here) (_, j-below, between) =
+  fits-unique v (Feature.Corner i) (Feature.Edge j) y-proper z-proper same (_, below, here) (_, j-below, between) =
       absurd (corner-or-edge i j y-proper same below here j-below between)
-  fits-unique v (OnEdge i) (AtCorner j) y-proper z-proper same (_, below, between) (_, j-below, there) =
+  fits-unique v (Feature.Edge i) (Feature.Corner j) y-proper z-proper same (_, below, between) (_, j-below, there) =
       absurd (corner-or-edge j i z-proper (same-sym same) j-below there below between)
-  fits-unique v (OnEdge i) (OnEdge j) y-proper z-proper same (_, below, between) (_, j-below, also) =
-      ap OnEdge (edge-line j j-below i below between
+  fits-unique v (Feature.Edge i) (Feature.Edge j) y-proper z-proper same (_, below, between) (_, j-below, also) =
+      ap Feature.Edge (edge-line j j-below i below between
       (same-line (edge cs j) (whole (corner cs j)) (same-sym same) z-proper (also .on-line)))

@@ -6,7 +6,6 @@ pub mod Walk
 pub mod LocalLaws
 pub mod FitsLaws
 pub mod DistanceLaws
-pub mod FirstOf
 pub mod AnswerLaws
 pub mod SearchLaws
 pub mod Scaling

@@ -1,5 +1,4 @@
 -- The local tests tell the nearest point, and outside the piece one of them holds.
---     length-above-0    the squared length of an edge is above 0
 --     corner-nearest    a corner whose test holds is the nearest point, and v is outside the piece
 --     edge-nearest      an edge whose test holds has the nearest point strictly between its ends, and v is outside the piece
 --     none-holds        where no test holds, v is in the piece
@@ -18,26 +17,23 @@ use Rattle.integers.proofs.Descent.{no-descent}
 use Rattle.plane.specs.declared.Corner.{Corner}
 use Rattle.plane.specs.declared.Point.{Point}
 use Rattle.plane.specs.Point.{whole}
-use Rattle.plane.specs.Vector.{_⇀_, dot, side}
-use Rattle.plane.proofs.Algebra.{dot-self, dot-back, side-end, apart-0, cross-length}
+use Rattle.plane.specs.Vector.{_⇀_, dot, side, isRight}
+use Rattle.plane.proofs.Algebra.{dot-self, dot-back, side-end, apart-0}
 use Rattle.plane.proofs.Cone.{cone}
 use Rattle.plane.proofs.Points.{whole-⇢}
 use Rattle.outline.specs.Convex.{Polygon}
 use Rattle.outline.specs.Corners.{corner, next, previous}
 use Rattle.outline.proofs.CornersLaws.{next-below, previous-below, next-previous, previous-next}
-use Rattle.nearest.specs.declared.Feature.the-variants.{Edge as OnEdge}
+use Rattle.nearest.specs.declared.Feature.the-variants as Feature
 use Rattle.nearest.specs.Piece.{InPiece, Outside}
 use Rattle.nearest.specs.Feature.{values}
 use Rattle.nearest.specs.Nearest.{Nearest, Between}
-use Rattle.nearest.specs.Local.{squaredLength, along, isRight, isCorner, isEdge}
+use Rattle.nearest.specs.Local.{squaredLength, along, isCorner, isEdge}
+use Rattle.outline.proofs.EdgeLaws.{length-above-0}
 use Rattle.nearest.proofs.PieceLaws.{whole-in-piece}
 use Rattle.nearest.proofs.Support.{not-right, corner-in-piece, turns-left, corner-cone}
 use Rattle.plane.proofs.Foot.{foot-left, foot-on-line, foot-after, foot-before, foot-bound}
 use Rattle.nearest.proofs.Walk.{corner-test, edge-test, PastEnd, PastStart, visible-past, forth, back}
-
-pub length-above-0 : {cs : List Corner} → Polygon cs → (i : ℕ) → i < length cs
-    → pos 0 <ℤ squaredLength (corner cs i) (corner cs (next (length cs) i))
-length-above-0 polygon i below = cross-length _ _ (turns-left polygon i below)
 
 module _ {cs : List Corner} (polygon : Polygon cs) (v : Corner) where
   -- the cone at a corner whose test holds has the piece in it, and v not
@@ -56,7 +52,9 @@ module _ {cs : List Corner} (polygon : Polygon cs) (v : Corner) where
 
   -- the nearest point is the foot of v on the edge: the answer's point, with n for the edge's squared length
   pub edge-nearest : (i : ℕ) → i < length cs → isEdge cs v i ≡ true
-      → Nearest cs (whole v) (values cs v (OnEdge i) .point) × Between cs i (values cs v (OnEdge i) .point) × Outside cs (whole v)
+      → Nearest cs (whole v) (values cs v (Feature.Edge i) .point)
+      × Between cs i (values cs v (Feature.Edge i) .point)
+      × Outside cs (whole v)
   edge-nearest i below holds =
       let p = corner cs i in
       let q = corner cs (next (length cs) i) in
@@ -118,10 +116,10 @@ module _ {cs : List Corner} (polygon : Polygon cs) (v : Corner) where
           ]
 
   -- Were v right of neither edge at the corner, it would be in the cone there, and the test says that only the corner is.
-  pub corner-visible : (i : ℕ) → i < length cs → isCorner cs v i ≡ true
-      → (isRight v (corner cs i) (corner cs (next (length cs) i)) ≡ true)
-      ⊎ (isRight v (corner cs (previous (length cs) i)) (corner cs i) ≡ true)
-  corner-visible i below holds = by-tests (isRight v c after) (isRight v before c) refl refl
+  pub corner-visible : (i : ℕ) → i < length cs → isCorner cs v i ≡ true → (let n = length cs in
+      let before = corner cs (previous n i) in let c = corner cs i in let after = corner cs (next n i) in
+      (isRight c (c ⇀ after) v ≡ true) ⊎ (isRight before (before ⇀ c) v ≡ true))
+  corner-visible i below holds = by-tests (isRight c (c ⇀ after) v) (isRight before (before ⇀ c) v) refl refl
     where
       before : Corner
       before = corner cs (previous (length cs) i)
@@ -132,7 +130,8 @@ module _ {cs : List Corner} (polygon : Polygon cs) (v : Corner) where
       after : Corner
       after = corner cs (next (length cs) i)
 
-      by-tests : (a b : Bool) → isRight v c after ≡ a → isRight v before c ≡ b → (a ≡ true) ⊎ (b ≡ true)
+      by-tests : (a b : Bool) → isRight c (c ⇀ after) v ≡ a → isRight before (before ⇀ c) v ≡ b
+          → (a ≡ true) ⊎ (b ≡ true)
       by-tests true b _ _ = inl refl
       by-tests false true _ _ = inr refl
       by-tests false false out into =

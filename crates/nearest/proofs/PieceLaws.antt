@@ -17,8 +17,8 @@ use Rattle.plane.specs.Point.{whole}
 use Rattle.plane.specs.Vector.{side}
 use Rattle.plane.proofs.Points.{whole-proper, whole-⇢}
 use Rattle.outline.specs.Corners.{corner, next}
-use Rattle.outline.specs.Turns.{all}
-use Rattle.outline.proofs.TurnsLaws.{all-true}
+use Rattle.lists.specs.Fold.{all}
+use Rattle.lists.proofs.FoldLaws.{all-true}
 use Rattle.nearest.specs.Piece.{InPiece, Outside, isOutside}
 
 module _ (cs : List Corner) (v : Corner) where

@@ -30,7 +30,7 @@ use Rattle.outline.specs.Convex.{Polygon, StrictlyConvex}
 use Rattle.outline.specs.Corners.{corner, next, origin}
 use Rattle.nearest.specs.Piece.{sideOf, InPiece}
 use Rattle.nearest.specs.declared.Feature.{Feature}
-use Rattle.nearest.specs.declared.Feature.the-variants.{Within, Corner as AtCorner, Edge as OnEdge}
+use Rattle.nearest.specs.declared.Feature.the-variants as Feature
 use Rattle.nearest.specs.declared.NearestPoint.{NearestPoint}
 use Rattle.nearest.specs.Local.{nearest}
 use Rattle.nearest.specs.Scaling.{scaled, enlarged, shrunk, over, numerator, nearestAt}
@@ -176,24 +176,28 @@ module _ (k : ℕ) (cs : List Corner) where
     piece-over v = rw one-mul at (scaled-piece (whole v))
 
     pub scaled-fits : (v : Corner) (y : Point) (f : Feature) → Fits (enlarged k cs) (whole v) y f → Fits cs (over k v) (shrunk k y) f
-    scaled-fits v y Within (inside, same) = (piece-over v .0 inside, rw (one-mul k) at (same-shrunk k y (whole v) same))
-    scaled-fits v y (AtCorner i) (outside, below, same) = (
+    scaled-fits v y Feature.Within (inside, same) =
+        (piece-over v .0 inside, rw (one-mul k) at (same-shrunk k y (whole v) same))
+    scaled-fits v y (Feature.Corner i) (outside, below, same) = (
       λ inside. outside (piece-over v .1 inside),
       rw length-enlarged at below,
       same-trans (*ℤ-pos (whole-proper (corner cs i)) above) (same-shrunk k y _ (rw (corner-enlarged i) at same))
           (scaled-shrunk k (corner cs i)),
     )
-    scaled-fits v y (OnEdge i) (outside, below, between) = let p = corner cs i in let q = corner cs (next (length cs) i) in (
-      λ inside. outside (piece-over v .1 inside),
-      rw length-enlarged at below,
-      record {
-        on-line = factor-zero above (sym (sideOf-enlarged i y) ∙ between .on-line);
-        after-start = factor-pos above (rw (← run-scaled k p q _, ← from-scaled k p y)
-            (rw (length-enlarged, corner-enlarged i, corner-enlarged (next (length cs) i)) at (between .after-start)));
-        before-end = factor-pos above (rw (← run-scaled k p q _, ← to-scaled k y q)
-            (rw (length-enlarged, corner-enlarged i, corner-enlarged (next (length cs) i)) at (between .before-end)));
-      },
-    )
+    scaled-fits v y (Feature.Edge i) (outside, below, between) =
+        let p = corner cs i in let q = corner cs (next (length cs) i) in (
+          λ inside. outside (piece-over v .1 inside),
+          rw length-enlarged at below,
+          record {
+            on-line = factor-zero above (sym (sideOf-enlarged i y) ∙ between .on-line);
+            after-start = factor-pos above (rw (← run-scaled k p q _, ← from-scaled k p y)
+                (rw (length-enlarged, corner-enlarged i, corner-enlarged (next (length cs) i))
+                at (between .after-start)));
+            before-end = factor-pos above (rw (← run-scaled k p q _, ← to-scaled k y q)
+                (rw (length-enlarged, corner-enlarged i, corner-enlarged (next (length cs) i))
+                at (between .before-end)));
+          },
+        )
 
 module _ {cs : List Corner} (polygon : Polygon cs) (v : Point) (proper : Proper v) where
   larger : Polygon (enlarged (v .lower) cs)

@@ -24,7 +24,7 @@ use Rattle.plane.proofs.Points.{whole-proper, same-refl, same?}
 use Rattle.outline.specs.Convex.{Polygon}
 use Rattle.outline.specs.Corners.{corner}
 use Rattle.nearest.specs.declared.Feature.{Feature}
-use Rattle.nearest.specs.declared.Feature.the-variants.{Within, Corner as AtCorner, Edge as OnEdge}
+use Rattle.nearest.specs.declared.Feature.the-variants as Feature
 use Rattle.nearest.specs.declared.NearestPoint.{NearestPoint}
 use Rattle.nearest.specs.Piece.{InPiece, Outside, isOutside}
 use Rattle.nearest.specs.Feature.{values}
@@ -57,12 +57,14 @@ module _ (m : NearestPoint) where
   abbrev AllNoBetter : List NearestPoint → Type 0
   AllNoBetter bs = (b : NearestPoint) → List·Memᴰ b bs → NoBetter b
 
-  -- Of two of which one is m, m is kept.
-  kept : (a b : NearestPoint) → NoBetter a → NoBetter b → (m ≡ a) ⊎ (m ≡ b) → cond (isLess (b .gap) (a .gap)) b a ≡ m
-  kept a b known (inl also) (inl is) = picked (λ c. c ≡ m) (isLess (b .gap) (a .gap)) b a also (sym is)
-  kept a b known (inr less) (inl is) = let lesser : Less a b = rw is at less in rw (le-ltb _ _ (le-of-lt lesser)) (sym is)
-  kept a b (inl also) known (inr is) = picked (λ c. c ≡ m) (isLess (b .gap) (a .gap)) b a (sym is) also
-  kept a b (inr less) known (inr is) = let lesser : Less b a = rw is at less in rw (lt-ltb _ _ lesser) (sym is)
+  -- Of two of which one is m, the lesser is m.
+  lesser-strict : (a b : NearestPoint) → NoBetter a → NoBetter b → (m ≡ a) ⊎ (m ≡ b)
+      → cond (isLess (b .gap) (a .gap)) b a ≡ m
+  lesser-strict a b known (inl also) (inl is) = picked (λ c. c ≡ m) (isLess (b .gap) (a .gap)) b a also (sym is)
+  lesser-strict a b known (inr less) (inl is) =
+      let lesser : Less a b = rw is at less in rw (le-ltb _ _ (le-of-lt lesser)) (sym is)
+  lesser-strict a b (inl also) known (inr is) = picked (λ c. c ≡ m) (isLess (b .gap) (a .gap)) b a (sym is) also
+  lesser-strict a b (inr less) known (inr is) = let lesser : Less b a = rw is at less in rw (lt-ltb _ _ lesser) (sym is)
 
   least-strict : (a : NearestPoint) (bs : List NearestPoint) → NoBetter a → AllNoBetter bs → (m ≡ a) ⊎ List·Memᴰ m bs → least a bs ≡ m
   unfolding least
@@ -76,7 +78,7 @@ module _ (m : NearestPoint) where
       second = all b (List·Memᴰ·head refl)
 
       stays : (m ≡ a) ⊎ (m ≡ b) → (m ≡ cond (isLess (b .gap) (a .gap)) b a) ⊎ List·Memᴰ m bs
-      stays one = inl (sym (kept a b known second one))
+      stays one = inl (sym (lesser-strict a b known second one))
 
   -- A list's member m with a gap less than every other's is what `leastOf` gives.
   leastOf-strict : (none : NearestPoint) (bs : List NearestPoint) → AllNoBetter bs → List·Memᴰ m bs → leastOf none bs ≡ m
@@ -101,17 +103,17 @@ from-test true there = (refl, List·Memᴰ·eq-of-singleton there)
 from-test false there = absurd (List·Memᴰ·not-nil there)
 
 abbrev Tried : List Corner → Corner → Feature → Type 0
-Tried cs v Within = ⊥
-Tried cs v (AtCorner i) = i < length cs
-Tried cs v (OnEdge i) = (i < length cs) × (isEdge cs v i ≡ true)
+Tried cs v Feature.Within = ⊥
+Tried cs v (Feature.Corner i) = i < length cs
+Tried cs v (Feature.Edge i) = (i < length cs) × (isEdge cs v i ≡ true)
 
 module _ (cs : List Corner) (v : Corner) where
   -- what is tried at corner i, and at edge i
   cornerAt : ℕ → List NearestPoint
-  cornerAt i = values cs v (AtCorner i) ∷ []
+  cornerAt i = values cs v (Feature.Corner i) ∷ []
 
   edgeAt : ℕ → List NearestPoint
-  edgeAt i = cond (isEdge cs v i) (values cs v (OnEdge i) ∷ []) []
+  edgeAt i = cond (isEdge cs v i) (values cs v (Feature.Edge i) ∷ []) []
 
   corners-tried : (a : NearestPoint) → List·Memᴰ a (triedCorners cs v (length cs)) ↔ ((i : ℕ) × (i < length cs) × List·Memᴰ a (cornerAt i))
   unfolding triedCorners cornerAt
@@ -124,16 +126,19 @@ module _ (cs : List Corner) (v : Corner) where
   tried-is : (a : NearestPoint) → List·Memᴰ a (tried cs v) → (g : Feature) × Tried cs v g × (a ≡ values cs v g)
   unfolding tried cornerAt edgeAt
   tried-is a there =
-      ⊎-elim (λ among. let (i, below, here) = corners-tried a .0 among in (AtCorner i, below, List·Memᴰ·eq-of-singleton here))
+      ⊎-elim
+      (λ among. let (i, below, here) = corners-tried a .0 among in
+      (Feature.Corner i, below, List·Memᴰ·eq-of-singleton here))
       (λ among. let (i, below, here) = edges-tried a .0 among in
-      let (holds, is) = from-test (isEdge cs v i) here in (OnEdge i, (below, holds), is))
+      let (holds, is) = from-test (isEdge cs v i) here in (Feature.Edge i, (below, holds), is))
       (List·Memᴰ·append-cases (triedCorners cs v (length cs)) there)
 
   is-tried : (g : Feature) → Tried cs v g → List·Memᴰ (values cs v g) (tried cs v)
   unfolding tried cornerAt edgeAt
-  is-tried Within none = absurd none
-  is-tried (AtCorner i) below = Memᴰ·append-left (triedEdges cs v (length cs)) (corners-tried _ .1 (i, below, List·Memᴰ·head refl))
-  is-tried (OnEdge i) (below, holds) =
+  is-tried Feature.Within none = absurd none
+  is-tried (Feature.Corner i) below =
+      Memᴰ·append-left (triedEdges cs v (length cs)) (corners-tried _ .1 (i, below, List·Memᴰ·head refl))
+  is-tried (Feature.Edge i) (below, holds) =
       Memᴰ·append-right (triedCorners cs v (length cs)) (edges-tried _ .1 (i, below, rw holds (List·Memᴰ·head refl)))
 
 record Candidate (cs : List Corner) (v : Corner) (g : Feature) : Type 0 where
@@ -143,17 +148,19 @@ record Candidate (cs : List Corner) (v : Corner) (g : Feature) : Type 0 where
 
 module _ {cs : List Corner} (polygon : Polygon cs) (v : Corner) where
   candidate : Outside cs (whole v) → (g : Feature) → Tried cs v g → Candidate cs v g
-  candidate outside Within none = absurd none
-  candidate outside (AtCorner i) below = record {
+  candidate outside Feature.Within none = absurd none
+  candidate outside (Feature.Corner i) below = record {
     in-piece = corner-in-piece polygon i below;
     fits = (outside, below, same-refl (whole (corner cs i)));
-    measured = squared-distance polygon v (AtCorner i) below;
+    measured = squared-distance polygon v (Feature.Corner i) below;
   }
-  candidate outside (OnEdge i) (below, holds) = let (nearest, between, _) = edge-nearest polygon v i below holds in record {
-    in-piece = nearest .in-piece;
-    fits = (outside, below, between);
-    measured = squared-distance polygon v (OnEdge i) below;
-  }
+  candidate outside (Feature.Edge i) (below, holds) =
+      let (nearest, between, _) = edge-nearest polygon v i below holds in
+      record {
+        in-piece = nearest .in-piece;
+        fits = (outside, below, between);
+        measured = squared-distance polygon v (Feature.Edge i) below;
+      }
 
   -- One point is one feature only, so another candidate is another point, and that is strictly farther.
   no-better : (f g : Feature) → Tested cs v f → Candidate cs v f → Candidate cs v g → NoBetter (values cs v f) (values cs v g)
@@ -167,9 +174,9 @@ module _ {cs : List Corner} (polygon : Polygon cs) (v : Corner) where
 
   -- Outside the piece the feature found is one that is tried.
   found-tried : Outside cs (whole v) → (f : Feature) → Tested cs v f → Tried cs v f
-  found-tried outside Within holds = absurd (outside (tested-answers polygon v Within holds .fits .0))
-  found-tried outside (AtCorner i) holds = holds .0
-  found-tried outside (OnEdge i) holds = holds
+  found-tried outside Feature.Within holds = absurd (outside (tested-answers polygon v Feature.Within holds .fits .0))
+  found-tried outside (Feature.Corner i) holds = holds .0
+  found-tried outside (Feature.Edge i) holds = holds
 
   -- any list of what is tried, in any order and with repeats
   pub least-any-order : Outside cs (whole v) → (none : NearestPoint) (order : List NearestPoint)

@@ -24,9 +24,9 @@ use Rattle.plane.proofs.Algebra.{side-end, side-start, side-stop, dot-back, dot
 use Rattle.plane.proofs.Cone.{cone}
 use Rattle.plane.proofs.Points.{whole-proper, whole-⇢, line-end}
 use Rattle.outline.specs.Convex.{Polygon}
-use Rattle.outline.specs.Corners.{corner, next, previous, origin}
+use Rattle.outline.specs.Corners.{corner, next, previous, origin, edge}
 use Rattle.outline.proofs.CornersLaws.{next-below, next-other, previous-below, next-previous, previous-next, next-not-previous}
-use Rattle.nearest.specs.Piece.{edge, InPiece}
+use Rattle.nearest.specs.Piece.{InPiece}
 
 module _ {cs : List Corner} (polygon : Polygon cs) where
   -- no corner is right of an edge: it is an end of the edge, with side number 0, or strictly left

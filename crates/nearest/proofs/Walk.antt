@@ -23,7 +23,7 @@ use Rattle.plane.specs.declared.Vector.{Vector}
 use Rattle.plane.specs.Vector.{_⇀_, cross, dot, side, coordinates}
 use Rattle.plane.proofs.Algebra.{O, vec, crossE, dotE, sideE, _⇀E_, side-end, side-start, side-stop, dot-back}
 use Rattle.plane.proofs.Cone.{turn-next, turn-previous}
-use Rattle.plane.proofs.Tests.{same-true}
+use Rattle.plane.proofs.Tests.{same-true, isRight-true}
 use Rattle.nearest.specs.Local.{squaredLength, along}
 use Rattle.nearest.specs.Local.{cornerIsNearest, edgeIsNearest}
 
@@ -37,7 +37,7 @@ corner-test v before c after =
 
 pub edge-test : (v p q : Corner)
     → (edgeIsNearest v p q ≡ true) ↔ ((side p q v <ℤ pos 0) × ((pos 0 <ℤ along p q v) × (along p q v <ℤ squaredLength p q)))
-edge-test v p q = test-and _ _ (ltZ-true, <ℤ-ltZ) (test-and _ _ (ltZ-true, <ℤ-ltZ) (ltZ-true, <ℤ-ltZ))
+edge-test v p q = test-and _ _ (isRight-true p (p ⇀ q) v) (test-and _ _ (ltZ-true, <ℤ-ltZ) (ltZ-true, <ℤ-ltZ))
 
 pub record PastEnd (v p q : Corner) : Type 0 where
   pub visible : side p q v <ℤ pos 0

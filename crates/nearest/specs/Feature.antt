@@ -14,17 +14,17 @@ use Rattle.plane.specs.Point.{whole}
 use Rattle.plane.specs.Vector.{_⇀_, cross, dot}
 use Rattle.outline.specs.Corners.{corner, next}
 use Rattle.nearest.specs.declared.Feature.{Feature}
-use Rattle.nearest.specs.declared.Feature.the-variants.{Within, Corner as AtCorner, Edge as OnEdge}
+use Rattle.nearest.specs.declared.Feature.the-variants as Feature
 use Rattle.nearest.specs.declared.NearestPoint.{NearestPoint}
 
 -- within: 0/1, at v
 abbrev pub withinValues : Corner → NearestPoint
-withinValues v = record { feature = Within; gap = record { upper = 0; lower = 1 }; point = whole v }
+withinValues v = record { feature = Feature.Within; gap = record { upper = 0; lower = 1 }; point = whole v }
 
 -- corner i, at c: a whole number over 1
 abbrev pub cornerValues : Corner → ℕ → Corner → NearestPoint
 cornerValues v i c = record {
-  feature = AtCorner i;
+  feature = Feature.Corner i;
   gap = record { upper = natAbs (dot (c ⇀ v) (c ⇀ v)); lower = 1 };
   point = whole c;
 }
@@ -44,9 +44,13 @@ footOn start run to = record {
 
 -- edge i, from p to q; the gap and the point have the same lower number
 abbrev pub edgeValues : Corner → ℕ → Corner → Corner → NearestPoint
-edgeValues v i p q = record { feature = OnEdge i; gap = edgeGap (p ⇀ q) (p ⇀ v); point = footOn p (p ⇀ q) (p ⇀ v) }
+edgeValues v i p q = record {
+  feature = Feature.Edge i;
+  gap = edgeGap (p ⇀ q) (p ⇀ v);
+  point = footOn p (p ⇀ q) (p ⇀ v);
+}
 
 abbrev pub values : List Corner → Corner → Feature → NearestPoint
-values cs v Within = withinValues v
-values cs v (AtCorner i) = cornerValues v i (corner cs i)
-values cs v (OnEdge i) = edgeValues v i (corner cs i) (corner cs (next (length cs) i))
+values cs v Feature.Within = withinValues v
+values cs v (Feature.Corner i) = cornerValues v i (corner cs i)
+values cs v (Feature.Edge i) = edgeValues v i (corner cs i) (corner cs (next (length cs) i))

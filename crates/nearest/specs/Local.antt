@@ -1,25 +1,26 @@
 -- The nearest feature of an outline to a point, found by tests that look at a corner or an edge and the corners next to it alone.
 --     squaredLength, along              of the edge from p to q; how far along it the foot of a point lies
 --     cornerIsNearest, edgeIsNearest    the tests, of the corners themselves
---     isRight, footIsBetween            the two parts of the test of an edge
+--     footIsBetween                     the part of the test of an edge that says where the foot lies
 --     isCorner, isEdge                  the tests at corner i and at edge i of an outline
 --     Tested                            the test of a feature holds; of Within: no test holds
---     featureAt, firstOf                what they find at corner i; what is found first at 0, 1, .. below n (Within: nothing)
+--     featureAt, _orNext_               what they find at corner i; the first of two that is not Within
 --     feature                           the feature that they find; Within where they find none
 --     nearest                           that feature with its gap and its point
 -- `proofs/AnswerLaws.antt` shows that `nearest` is the one answer that document 01's definition (`Nearest.antt`) admits.
-use Prim.Native.Nat.{ℕ, zero, suc, _<_}
+use Prim.Native.Nat.{ℕ, _<_}
 use mathlib.Core.Path.{_≡_}
 use mathlib.Core.Bool.{Bool, true, false, cond, not, _&&_}
 use mathlib.Core.List.{List}
 use lib.IntN.{ℤ, pos}
 use lib.ListN.{length}
 use lib.Signed.{leZ, ltZ}
+use Rattle.lists.specs.Fold.{fold}
 use Rattle.plane.specs.declared.Corner.{Corner}
-use Rattle.plane.specs.Vector.{_⇀_, dot, side, same}
+use Rattle.plane.specs.Vector.{_⇀_, dot, isRight, same}
 use Rattle.outline.specs.Corners.{corner, next, previous}
 use Rattle.nearest.specs.declared.Feature.{Feature}
-use Rattle.nearest.specs.declared.Feature.the-variants.{Within, Corner as AtCorner, Edge as OnEdge}
+use Rattle.nearest.specs.declared.Feature.the-variants as Feature
 use Rattle.nearest.specs.declared.NearestPoint.{NearestPoint}
 use Rattle.nearest.specs.Feature.{values}
 
@@ -36,17 +37,13 @@ abbrev pub cornerIsNearest : Corner → Corner → Corner → Corner → Bool
 cornerIsNearest v before c after =
     not (same c v) && leZ (dot (c ⇀ v) (c ⇀ before)) (pos 0) && leZ (dot (c ⇀ v) (c ⇀ after)) (pos 0)
 
--- v is strictly right of the edge from p to q
-abbrev pub isRight : Corner → Corner → Corner → Bool
-isRight v p q = ltZ (side p q v) (pos 0)
-
 -- the foot of v lies strictly between p and q
 abbrev pub footIsBetween : Corner → Corner → Corner → Bool
 footIsBetween v p q = ltZ (pos 0) (along p q v) && ltZ (along p q v) (squaredLength p q)
 
--- the test of the edge: both
+-- v is strictly right of the edge from p to q, and its foot lies strictly between them
 abbrev pub edgeIsNearest : Corner → Corner → Corner → Bool
-edgeIsNearest v p q = isRight v p q && footIsBetween v p q
+edgeIsNearest v p q = isRight p (p ⇀ q) v && footIsBetween v p q
 
 abbrev pub isCorner : List Corner → Corner → ℕ → Bool
 isCorner cs v i = cornerIsNearest v (corner cs (previous (length cs) i)) (corner cs i) (corner cs (next (length cs) i))
@@ -55,27 +52,23 @@ abbrev pub isEdge : List Corner → Corner → ℕ → Bool
 isEdge cs v i = edgeIsNearest v (corner cs i) (corner cs (next (length cs) i))
 
 abbrev pub Tested : List Corner → Corner → Feature → Type 0
-Tested cs v Within = (i : ℕ) → i < length cs → (isCorner cs v i ≡ false) × (isEdge cs v i ≡ false)
-Tested cs v (AtCorner i) = (i < length cs) × (isCorner cs v i ≡ true)
-Tested cs v (OnEdge i) = (i < length cs) × (isEdge cs v i ≡ true)
+Tested cs v Feature.Within = (i : ℕ) → i < length cs → (isCorner cs v i ≡ false) × (isEdge cs v i ≡ false)
+Tested cs v (Feature.Corner i) = (i < length cs) × (isCorner cs v i ≡ true)
+Tested cs v (Feature.Edge i) = (i < length cs) × (isEdge cs v i ≡ true)
 
 -- corner i or edge i, or Within where neither is nearest
 abbrev pub featureAt : List Corner → Corner → ℕ → Feature
-featureAt cs v i = cond (isCorner cs v i) (AtCorner i) (cond (isEdge cs v i) (OnEdge i) Within)
+featureAt cs v i = cond (isCorner cs v i) (Feature.Corner i) (cond (isEdge cs v i) (Feature.Edge i) Feature.Within)
 
 infixl 30 _orNext_
 abbrev pub _orNext_ : Feature → Feature → Feature
-Within orNext g = g
-AtCorner i orNext g = AtCorner i
-OnEdge i orNext g = OnEdge i
+Feature.Within orNext g = g
+Feature.Corner i orNext g = Feature.Corner i
+Feature.Edge i orNext g = Feature.Edge i
 
--- what is found first at 0, 1, .. below n
-unfoldable pub firstOf : (ℕ → Feature) → ℕ → Feature
-firstOf found zero = Within
-firstOf found (suc n) = firstOf found n orNext found n
-
+-- what is found first at 0, 1, ..
 unfoldable pub feature : List Corner → Corner → Feature
-feature cs v = firstOf (featureAt cs v) (length cs)
+feature cs v = fold _orNext_ Feature.Within (featureAt cs v) (length cs)
 
 abbrev pub nearest : List Corner → Corner → NearestPoint
 nearest cs v = values cs v (feature cs v)

@@ -15,12 +15,12 @@ use Rattle.plane.specs.declared.Corner.{Corner}
 use Rattle.plane.specs.declared.Point.{Point}
 use Rattle.plane.specs.Point.{Proper, whole, _⇢_, Same}
 use Rattle.plane.specs.Vector.{dot}
-use Rattle.outline.specs.Corners.{corner, next}
+use Rattle.outline.specs.Corners.{corner, next, edge}
 use Rattle.nearest.specs.declared.Feature.{Feature}
-use Rattle.nearest.specs.declared.Feature.the-variants.{Within, Corner as AtCorner, Edge as OnEdge}
+use Rattle.nearest.specs.declared.Feature.the-variants as Feature
 use Rattle.nearest.specs.declared.NearestPoint.{NearestPoint}
 use Rattle.nearest.specs.Feature.{values}
-use Rattle.nearest.specs.Piece.{edge, sideOf, InPiece, Outside}
+use Rattle.nearest.specs.Piece.{sideOf, InPiece, Outside}
 
 -- the point y of the piece for which (v - y)·(c - y) is at most 0 for every corner c of the piece. Here it is multiplied by the lower
 -- numbers of v and y, which are above 0
@@ -37,9 +37,9 @@ pub record Between (cs : List Corner) (i : ℕ) (y : Point) : Type 0 where
 -- within (v is in the piece, y = v); corner i; edge i, where y lies strictly between its ends. Of a nearest point y, and so of a point
 -- of the piece
 abbrev pub Fits : List Corner → Point → Point → Feature → Type 0
-Fits cs v y Within = InPiece cs v × Same y v
-Fits cs v y (AtCorner i) = Outside cs v × (i < length cs) × Same y (whole (corner cs i))
-Fits cs v y (OnEdge i) = Outside cs v × (i < length cs) × Between cs i y
+Fits cs v y Feature.Within = InPiece cs v × Same y v
+Fits cs v y (Feature.Corner i) = Outside cs v × (i < length cs) × Same y (whole (corner cs i))
+Fits cs v y (Feature.Edge i) = Outside cs v × (i < length cs) × Between cs i y
 
 -- |v - y|² is dot (y ⇢ v) (y ⇢ v) over the square of both lower numbers; the equation is multiplied out
 pub record SquaredDistance (v y : Point) (g : Fraction) : Type 0 where

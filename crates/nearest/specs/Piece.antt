@@ -1,5 +1,5 @@
 -- Document 01: the piece, the region that is strictly right of no edge, its border included.
---     edge, sideOf        the differences of edge i; the side number of a point against it
+--     sideOf              the side number of a point against edge i
 --     InPiece, Outside    a point is in the piece, or it is not
 --     isOutside           the test of a point with whole coordinates
 use Prim.Native.Nat.{ℕ, _<_}
@@ -8,17 +8,12 @@ use mathlib.Core.List.{List}
 use lib.IntN.{ℤ, pos}
 use lib.ListN.{length}
 use lib.Signed.{leZ, _≤ℤ_}
+use Rattle.lists.specs.Fold.{all}
 use Rattle.plane.specs.declared.Corner.{Corner}
 use Rattle.plane.specs.declared.Point.{Point}
-use Rattle.plane.specs.declared.Vector.{Vector}
 use Rattle.plane.specs.Point.{Proper, whole, _⇢_}
-use Rattle.plane.specs.Vector.{_⇀_, cross, side}
-use Rattle.outline.specs.Corners.{corner, next}
-use Rattle.outline.specs.Turns.{all}
-
--- edge i runs from corner i to the following one
-abbrev pub edge : List Corner → ℕ → Vector
-edge cs i = corner cs i ⇀ corner cs (next (length cs) i)
+use Rattle.plane.specs.Vector.{cross, side}
+use Rattle.outline.specs.Corners.{corner, next, edge}
 
 -- times the point's lower number, which is above 0 and so keeps the sign
 abbrev pub sideOf : List Corner → ℕ → Point → ℤ

@@ -16,18 +16,22 @@ use Rattle.integers.specs.Fraction.{isLess}
 use Rattle.plane.specs.declared.Corner.{Corner}
 use Rattle.plane.specs.Vector.{_⇀_, dot, side}
 use Rattle.outline.specs.Corners.{corner, next}
-use Rattle.nearest.specs.declared.Feature.the-variants.{Within, Corner as AtCorner, Edge as OnEdge}
+use Rattle.nearest.specs.declared.Feature.the-variants as Feature
 use Rattle.nearest.specs.declared.NearestPoint.{NearestPoint}
 use Rattle.nearest.specs.Piece.{isOutside}
 
 -- a corner v in the other piece is within, 0/1, at v
 abbrev pub within : Corner → NearestPoint
-within v = record { feature = Within; gap = record { upper = 0; lower = 1 }; point = record { x = v .x; y = v .y; lower = 1 } }
+within v = record {
+  feature = Feature.Within;
+  gap = record { upper = 0; lower = 1 };
+  point = record { x = v .x; y = v .y; lower = 1 };
+}
 
 -- each corner of the other piece, at its squared distance over 1
 abbrev pub tryCorner : Corner → ℕ → Corner → NearestPoint
 tryCorner v i c = record {
-  feature = AtCorner i;
+  feature = Feature.Corner i;
   gap = record { upper = natAbs (dot (c ⇀ v) (c ⇀ v)); lower = 1 };
   point = record { x = c .x; y = c .y; lower = 1 };
 }
@@ -42,7 +46,7 @@ isTried v p q =
 -- the point is then (L × p + t × (q - p)) / L and the gap the square of the side number over L
 abbrev pub tryEdge : Corner → ℕ → Corner → Corner → NearestPoint
 tryEdge v i p q = record {
-  feature = OnEdge i;
+  feature = Feature.Edge i;
   gap = record { upper = natAbs (side p q v *ℤ side p q v); lower = natAbs (dot (p ⇀ q) (p ⇀ q)) };
   point = record {
     x = dot (p ⇀ q) (p ⇀ q) *ℤ p .x +ℤ dot (p ⇀ v) (p ⇀ q) *ℤ (p ⇀ q) .x;

@@ -1,100 +1,155 @@
 -- What reading turns down and what it takes.
---     first-stands         a list is refused with a fault exactly where the fault applies and none before it does
---     none-applies         a list is taken exactly where no fault applies
---     accepted             that is: its length is even and the outline of its corners is accepted
---     accepted-polygon     an accepted outline is a polygon
---     accepted-distinct    of an accepted outline no corner is equal to the following one
+--     checks-decide        each check decides its condition
+--     check-refused        a list is refused exactly where a condition applies, with the refusal of the first that does
+--     check-taken          it is taken exactly where no condition applies
+--     none-accepted, accepted    that is: its length is even and the outline of its corners is accepted
+--     range-taken, convex-taken    the checks 4 and 6 take exactly where all corners are in range; where they are
+--                                  strictly convex
 use Prim.Native.Nat.{ℕ, _<_, _%_}
-use mathlib.Core.Path.{_≡_, refl, sym, ap, subst, _∙_}
+use mathlib.Core.Path.{_≡_}
 use mathlib.Core.Logic.{_↔_, Iff·trans, _≢_}
+use mathlib.Core.Bool.{Bool, true, not}
 use mathlib.Core.List.{List}
-use native.Mathlib.Nat.{lt-of-not-le}
 use native.Mathlib.Omega.{arith}
-use lib.IntN.{ℤ, pos}
-use lib.ListN.{length, List·getD-eq-default}
-use lib.Signed.{_<ℤ_, clashℤ, <ℤ-irrefl}
+use lib.Dec.{eqb}
+use lib.IntN.{ℤ}
+use lib.ListN.{length}
+use Rattle.integers.proofs.Reflect.{test-not, test-and, test-stable, test-eqb, test-ltb}
 use Rattle.plane.specs.declared.Corner.{Corner}
-use Rattle.plane.specs.Vector.{side}
-use Rattle.plane.proofs.Algebra.{side-same}
-use Rattle.outline.specs.declared.Fault.{Fault}
-use Rattle.outline.specs.declared.Fault.the-variants.{OddLength, TooFewCorners, TooManyCorners, OutOfRange, Repeated, NotLeft, PointOutOfRange, NoSuchCorner, WrongLength}
-use Rattle.outline.specs.declared.Check.the-variants.{Passed, Failed}
-use Rattle.outline.specs.Corners.{corners, corner, next}
-use Rattle.outline.specs.Convex.{Accepted, Polygon}
-use Rattle.outline.specs.Reading.{check}
-use Rattle.outline.specs.Applies.{Applies, rank}
-use Rattle.outline.proofs.CornersLaws.{next-below, next-other, next-next-other}
-use Rattle.outline.proofs.First.{order-passed, order-failed}
-use Rattle.outline.proofs.ChecksLaws.{passed≢failed, each-passed}
-use Rattle.outline.proofs.Stages.{stages, stage, check-stages, stage-failed, stage-fails, outOfRange-passed, notLeft-passed}
+use Rattle.plane.specs.Range.{InRange, inRange}
+use Rattle.plane.specs.Vector.{isLeft}
+use Rattle.plane.proofs.Tests.{inRange-true, same-true, isLeft-true}
+use Rattle.outline.specs.declared.Place.the-variants.{Nowhere}
+use Rattle.outline.specs.declared.Refusal.{Refusal}
+use Rattle.outline.specs.declared.RefusedSide.{RefusedSide}
+use Rattle.outline.specs.declared.Verdict.the-variants.{Taken, Refused}
+use Rattle.outline.specs.Conditions.{NotLeftOf, outOfRange, repeated, notLeft, readingConditions, AcceptedList}
+use Rattle.outline.specs.Convex.{AllInRange, LeftOf, StrictlyConvex}
+use Rattle.outline.specs.Corners.{corners, corner, next, edge, fewest, most}
+use Rattle.outline.specs.Reading.{isOutOfRange, isRepeated, isNotLeft}
+use Rattle.outline.specs.Reading.{checkRange, checkRepeated, checkEdge, checkConvex, checks, check}
+use Rattle.outline.specs.Refusal.{FirstFault, NoneApplies}
+use Rattle.outline.proofs.EdgeLaws.{accepted-polygon, polygon-distinct}
+use Rattle.outline.proofs.ConditionLaws.{_and_, Decides, AllDecide, decides-taken, first-refused, first-taken}
+use Rattle.outline.proofs.ConditionLaws.{nowhere-plain, lowest-none, nowhere-edge}
+use Rattle.outline.proofs.ConditionLaws.{test-decides, tests-taken, lowest-decides, edges-taken, edges-decide}
 
-module _ (s : List ℤ) where
-  -- the check of rank k finds a fault exactly where it has that rank and applies
-  finds : (k : ℕ) (f : Fault) → (stage s k ≡ Failed f) ↔ ((rank f ≡ k) × Applies s f)
-  finds k f = (stage-failed s k f, λ found. subst (λ (i : ℕ). stage s i ≡ Failed f) (found .0) (stage-fails s f (found .1)))
+-- ---- each check of the corners: its test, by its meaning; that it decides its condition; what it means that it takes
+module _ (cs : List Corner) where
+  abbrev n : ℕ
+  n = length cs
 
-  -- so its rank is that of a check
-  rank-below : (f : Fault) → Applies s f → rank f < length (stages s)
-  rank-below f applies =
-      lt-of-not-le (λ past. passed≢failed (List·getD-eq-default (stages s) Passed past) (stage-fails s f applies))
+  -- 4
+  outOfRange-true : (i : ℕ) → (isOutOfRange cs i ≡ true) ↔ (¬ InRange (corner cs i))
+  outOfRange-true i = test-not (inRange (corner cs i)) (inRange-true (corner cs i))
 
-  pub first-stands : (f : Fault) → (check s ≡ Failed f) ↔ (Applies s f × ((g : Fault) → rank g < rank f → ¬ Applies s g))
-  first-stands f = rw (check-stages s) (Iff·trans (order-failed finds (length (stages s)) f) (
-    λ (k, below, at, none). (at .1, λ g lower other. none (rank g) (rw (at .0) at lower) g (refl, other)),
-    λ (applies, none). (rank f, rank-below f applies, (refl, applies), λ j lower g other. none g (rw (other .0) lower) (other .1)),
-  ))
+  pub range-decides : (whose : RefusedSide) → Decides (checkRange whose cs) (outOfRange whose cs)
+  unfolding checkRange
+  range-decides whose = lowest-decides _ whose _ outOfRange-true n
 
-  pub none-applies : (check s ≡ Passed) ↔ ((g : Fault) → ¬ Applies s g)
-  none-applies = rw (check-stages s) (Iff·trans (order-passed finds (length (stages s))) (
-    λ none g applies. none (rank g) (rank-below g applies) g (refl, applies),
-    λ none k below g found. none g (found .1),
-  ))
+  in-range : ((i : ℕ) → i < n → ¬ (¬ InRange (corner cs i))) ↔ AllInRange cs
+  in-range = (
+    λ none i below. test-stable (inRange (corner cs i)) (inRange-true (corner cs i)) (none i below),
+    λ all i below out. out (all i below),
+  )
 
--- such an edge would have every corner on its line, and there is a third corner
-pub accepted-distinct : {cs : List Corner} → Accepted cs → (i : ℕ) → i < length cs → corner cs i ≢ corner cs (next (length cs) i)
-accepted-distinct {cs} ok i below same = <ℤ-irrefl (subst (λ z. pos 0 <ℤ z) on-line left)
-  where
-    n : ℕ
-    n = length cs
+  pub range-taken : (whose : RefusedSide) → (checkRange whose cs ≡ Taken) ↔ AllInRange cs
+  unfolding checkRange
+  range-taken whose = Iff·trans (tests-taken _ outOfRange-true _ n) in-range
 
-    third : ℕ
-    third = next n (next n i)
+  -- 5
+  repeated-true : (i : ℕ) → (isRepeated cs i ≡ true) ↔ (corner cs i ≡ corner cs (next n i))
+  repeated-true i = same-true (corner cs i) (corner cs (next n i))
 
-    left : pos 0 <ℤ side (corner cs i) (corner cs (next n i)) (corner cs third)
-    left =
-        ok .convex i third below (next-below n (next n i) (omega arith)) (next-next-other n i (ok .at-least))
-        (next-other n (next n i) (omega arith))
+  pub repeated-decides : (whose : RefusedSide) → Decides (checkRepeated whose cs) (repeated whose cs)
+  unfolding checkRepeated
+  repeated-decides whose = lowest-decides _ whose _ repeated-true n
 
-    on-line : side (corner cs i) (corner cs (next n i)) (corner cs third) ≡ pos 0
-    on-line = ap (λ q. side (corner cs i) q (corner cs third)) (sym same) ∙ side-same (corner cs i) (corner cs third)
+  -- 6
+  other-true : (a b : ℕ) → (not (eqb a b) ≡ true) ↔ (a ≢ b)
+  other-true a b = test-not (eqb a b) (test-eqb a b)
 
-pub accepted-polygon : {cs : List Corner} → Accepted cs → Polygon cs
-accepted-polygon ok = record { at-least = ok .at-least; convex = ok .convex }
+  -- corner c is strictly left of edge e
+  abbrev left : ℕ → ℕ → Bool
+  left e c = isLeft (corner cs e) (edge cs e) (corner cs c)
 
-pub accepted : (s : List ℤ) → (check s ≡ Passed) ↔ ((length s % 2 ≡ 0) × Accepted (corners s))
-accepted s = (there, λ h. none-applies s .1 (none (h .0) (h .1)))
-  where
-    there : check s ≡ Passed → (length s % 2 ≡ 0) × Accepted (corners s)
-    there e =
-        let pass = each-passed (stage s) (length (stages s)) .0 (sym (check-stages s) ∙ e) in
-        let none = none-applies s .0 e in (
-          omega (arith, none OddLength),
-          record {
-            at-least = omega (arith, none TooFewCorners);
-            at-most = omega (arith, none TooManyCorners);
-            in-range = outOfRange-passed (corners s) (pass 3 (omega arith));
-            convex = notLeft-passed (corners s) .0 (pass 5 (omega arith));
-          },
-        )
+  left-true : (e c : ℕ) → (left e c ≡ true) ↔ LeftOf cs e c
+  left-true e c = isLeft-true (corner cs e) (edge cs e) (corner cs c)
 
-    none : length s % 2 ≡ 0 → Accepted (corners s) → (g : Fault) → ¬ Applies s g
-    none even ok OddLength applies = omega arith
-    none even ok TooFewCorners applies = omega arith
-    none even ok TooManyCorners applies = omega arith
-    none even ok (OutOfRange i) applies = applies .here (ok .in-range i (applies .below))
-    none even ok (Repeated i) applies = accepted-distinct ok i (applies .below) (applies .here)
-    none even ok (NotLeft e c) (edge, at) =
-        clashℤ (ok .convex e c (edge .below) (at .below) (at .here .not-start) (at .here .not-end)) (at .here .not-left)
-    none even ok PointOutOfRange applies = applies
-    none even ok NoSuchCorner applies = applies
-    none even ok WrongLength applies = applies
+  isNotLeft-true : (e c : ℕ) → (isNotLeft cs e c ≡ true) ↔ NotLeftOf cs e c
+  isNotLeft-true e c = (
+    λ t. (let ((start, end), left) = all .0 t in record { not-start = start; not-end = end; not-left = left }),
+    λ h. all .1 ((h .not-start, h .not-end), h .not-left),
+  )
+    where
+      all : (isNotLeft cs e c ≡ true) ↔ ((c ≢ e) × (c ≢ next n e)) × (¬ LeftOf cs e c)
+      all = test-and _ _ (test-and _ _ (other-true c e) (other-true c (next n e))) (test-not (left e c) (left-true e c))
+
+  pub convex-decides : (whose : RefusedSide) → Decides (checkConvex whose cs) (notLeft whose cs)
+  unfolding checkConvex checkEdge
+  convex-decides whose = edges-decide _ whose _ isNotLeft-true n
+
+  pub convex-taken : (whose : RefusedSide) → (checkConvex whose cs ≡ Taken) ↔ StrictlyConvex cs
+  unfolding checkConvex checkEdge
+  convex-taken whose = Iff·trans (edges-taken _ whose _ isNotLeft-true n) (
+    λ none e c e-below c-below not-start not-end.
+        test-stable (left e c) (left-true e c)
+        (λ not. none e e-below (c, c-below, record { not-start = not-start; not-end = not-end; not-left = not })),
+    λ convex e e-below (c, c-below, found).
+        found .not-left (convex e c e-below c-below (found .not-start) (found .not-end)),
+  )
+
+-- ---- all checks
+module _ (whose : RefusedSide) (s : List ℤ) where
+  pub checks-decide : AllDecide (checks whose s) (readingConditions whose s)
+  checks-decide =
+      test-decides _ whose _ (test-eqb (length s % 2) 1)
+      and test-decides _ whose _ (test-ltb (length (corners s)) fewest)
+      and test-decides _ whose _ (test-ltb most (length (corners s)))
+      and range-decides (corners s) whose
+      and repeated-decides (corners s) whose
+      and convex-decides (corners s) whose
+      and tt
+
+  pub check-refused : (r : Refusal) → (check whose s ≡ Refused r) ↔ FirstFault (readingConditions whose s) r
+  unfolding check
+  check-refused = first-refused (checks whose s) (readingConditions whose s) checks-decide
+
+  pub check-taken : (check whose s ≡ Taken) ↔ NoneApplies (readingConditions whose s)
+  unfolding check
+  check-taken = first-taken (checks whose s) (readingConditions whose s) checks-decide
+
+module _ (whose : RefusedSide) (s : List ℤ) where
+  abbrev cs : List Corner
+  cs = corners s
+
+  pub none-accepted : NoneApplies (readingConditions whose s) ↔ AcceptedList s
+  none-accepted = (there, back)
+    where
+      there : NoneApplies (readingConditions whose s) → AcceptedList s
+      there (not-odd, (not-few, (not-many, (none-out, (none-repeated, (none-not-left, _)))))) =
+          let odd : ¬ (length s % 2 ≡ 1) = λ is. not-odd (Nowhere, is) in
+          let few : ¬ (length cs < fewest) = λ is. not-few (Nowhere, is) in
+          let many : ¬ (most < length cs) = λ is. not-many (Nowhere, is) in (
+            omega arith,
+            record {
+              at-least = omega arith;
+              at-most = omega arith;
+              in-range = in-range cs .0 (lowest-none _ (outOfRange-true cs) _ .0 none-out);
+              convex = convex-taken cs whose .0 (decides-taken (convex-decides cs whose) .1 none-not-left);
+            },
+          )
+
+      back : AcceptedList s → NoneApplies (readingConditions whose s)
+      back (even, ok) =
+          nowhere-plain (λ odd. omega arith)
+          and nowhere-plain (λ few. omega (arith, ok .at-least))
+          and nowhere-plain (λ many. omega (arith, ok .at-most))
+          and lowest-none _ (outOfRange-true cs) _ .1 (in-range cs .1 (ok .in-range))
+          and lowest-none _ (repeated-true cs) _ .1 (polygon-distinct (accepted-polygon ok))
+          and nowhere-edge (λ e c (edge, low). low .here .not-left
+          (ok .convex e c (edge .below) (low .below) (low .here .not-start) (low .here .not-end)))
+          and tt
+
+  pub accepted : (check whose s ≡ Taken) ↔ AcceptedList s
+  accepted = Iff·trans (check-taken whose s) none-accepted

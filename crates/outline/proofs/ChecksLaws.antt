@@ -1,141 +1,172 @@
--- Checks made in order, of which the first that fails stands.
---     passed≢failed, not-failed, failed-inj    a check passes or fails, with one fault
---     orElse-passed, orElse-failed    of two checks: both pass; the first fails, or it passes and the second fails
---     failIf-passed, failIf-failed    of a check that a test makes, by the test's meaning
---     AllPass, First                  of the checks below n: all pass; one fails so, and those before it pass
---     each-passed, each-failed        `each` passes, or fails so, exactly then
--- For code that makes them:
---     Scanning, scan-..    the invariant of a loop that makes them in order, and its steps
---     Testing, test-..     the same where each check is made by a test
---     orElse-stops, orElse-goes-on    two checks, one after the other
-use Prim.Native.Nat.{ℕ, zero, suc, _+_, _<_, _≤_}
+-- Checks made in order, of which the first that refuses stands.
+--     taken≢refused, not-refused, refused-inj    a verdict is to take or to refuse, with one refusal
+--     orElse-taken, orElse-refused               of two checks: both take; the first refuses, or it takes and the
+--                                                second does
+--     refuseIf-taken, refuseIf-refused           of a check that a test makes, by the test's meaning
+--     priority, each-taken, each-refused         `each` takes exactly where all do, and refuses so where the first does
+-- For code that makes them; the rules of a set are found by `search`:
+--     Scanning, scan-start, scanning             the invariant of a loop that makes them in order, and its steps
+--     Testing, test-start, testing               the same where each check is made by a test
+--     first-stops, first-goes-on, first-last     a list of checks, one after the other
+--     append-stops, append-goes-on               two lists
+use Prim.Native.Nat.{ℕ, _+_, _<_, _≤_}
 use mathlib.Core.Path.{_≡_, refl, sym, ap, _∙_}
-use mathlib.Core.Logic.{_↔_, Iff·trans, _⊎_, inl, inr, ⊎-elim}
+use mathlib.Core.Logic.{_↔_, Iff·trans, _≢_, _⊎_, inl, inr, ⊎-elim}
 use mathlib.Core.Bool.{Bool, true, false, true≢false, false≢true}
-use native.Mathlib.Nat.{eq-or-lt-of-le, le-of-suc-le-suc}
+use mathlib.Core.List.{List, [], _∷_, _++_}
 use native.Mathlib.Numerals.{add-one}
 use native.Mathlib.Omega.{arith}
 use Rattle.integers.proofs.Reflect.{test-false}
-use Rattle.outline.specs.declared.Check.{Check}
-use Rattle.outline.specs.declared.Check.the-variants.{Passed, Failed}
-use Rattle.outline.specs.declared.Fault.{Fault}
-use Rattle.outline.specs.Checks.{failIf, _orElse_, each}
+use Rattle.lists.specs.Fold.{fold}
+use Rattle.lists.proofs.FirstLaws.{Priority, NoneBelow, First, fold-none, fold-first}
+use Rattle.outline.specs.declared.Refusal.{Refusal}
+use Rattle.outline.specs.declared.Verdict.{Verdict}
+use Rattle.outline.specs.declared.Verdict.the-variants.{Taken, Refused}
+use Rattle.outline.specs.Checks.{refuseIf, _orElse_, first, each}
 
-pub passed≢failed : {c : Check} {f : Fault} → c ≡ Passed → c ≡ Failed f → ⊥
-passed≢failed p q = let z : _≡_ {A = ℕ} 0 1 = cc in omega arith
+pub taken≢refused : {v : Verdict} {r : Refusal} → v ≡ Taken → v ≡ Refused r → ⊥
+taken≢refused p q = let z : _≡_ {A = ℕ} 0 1 = cc in omega arith
 
-pub not-failed : (c : Check) → ((f : Fault) → ¬ (c ≡ Failed f)) → c ≡ Passed
-not-failed Passed none = refl
-not-failed (Failed f) none = absurd (none f refl)
+pub not-refused : (v : Verdict) → ((r : Refusal) → ¬ (v ≡ Refused r)) → v ≡ Taken
+not-refused Taken none = refl
+not-refused (Refused r) none = absurd (none r refl)
 
-pub failed-inj : {c : Check} {f g : Fault} → c ≡ Failed f → c ≡ Failed g → f ≡ g
-failed-inj p q = cc
+pub refused-inj : {v : Verdict} {r q : Refusal} → v ≡ Refused r → v ≡ Refused q → r ≡ q
+refused-inj p q = cc
 
-pub orElse-passed : (c d : Check) → (c orElse d ≡ Passed) ↔ ((c ≡ Passed) × (d ≡ Passed))
-orElse-passed Passed d = (λ e. (refl, e), λ both. both .1)
-orElse-passed (Failed f) d = (λ e. absurd (passed≢failed e refl), λ both. both .0)
+pub orElse-taken : (v w : Verdict) → (v orElse w ≡ Taken) ↔ ((v ≡ Taken) × (w ≡ Taken))
+orElse-taken Taken w = (λ e. (refl, e), λ both. both .1)
+orElse-taken (Refused r) w = (λ e. absurd (taken≢refused e refl), λ both. both .0)
 
-pub orElse-failed : (c d : Check) (f : Fault) → (c orElse d ≡ Failed f) ↔ ((c ≡ Failed f) ⊎ ((c ≡ Passed) × (d ≡ Failed f)))
-orElse-failed Passed d f = (λ e. inr (refl, e), λ h. ⊎-elim (λ e. absurd (passed≢failed refl e)) (λ both. both .1) h)
-orElse-failed (Failed g) d f = (λ e. inl e, λ h. ⊎-elim (λ e. e) (λ both. absurd (passed≢failed (both .0) refl)) h)
+pub orElse-refused : (v w : Verdict) (r : Refusal)
+    → (v orElse w ≡ Refused r) ↔ ((v ≡ Refused r) ⊎ ((v ≡ Taken) × (w ≡ Refused r)))
+orElse-refused Taken w r = (λ e. inr (refl, e), λ h. ⊎-elim (λ e. absurd (taken≢refused refl e)) (λ both. both .1) h)
+orElse-refused (Refused q) w r = (λ e. inl e, λ h. ⊎-elim (λ e. e) (λ both. absurd (taken≢refused (both .0) refl)) h)
 
 module _ {P : Type 0} where
-  pub failIf-passed : (b : Bool) → ((b ≡ true) ↔ P) → (f : Fault) → (failIf b f ≡ Passed) ↔ (¬ P)
-  failIf-passed b means f = Iff·trans (passed-false b) (test-false b means)
+  pub refuseIf-taken : (b : Bool) → ((b ≡ true) ↔ P) → (r : Refusal) → (refuseIf b r ≡ Taken) ↔ (¬ P)
+  refuseIf-taken b means r = Iff·trans (taken-false b) (test-false b means)
     where
-      passed-false : (b : Bool) → (failIf b f ≡ Passed) ↔ (b ≡ false)
-      passed-false true = (λ e. absurd (passed≢failed e refl), λ e. absurd (true≢false e))
-      passed-false false = (λ _. refl, λ _. refl)
+      taken-false : (b : Bool) → (refuseIf b r ≡ Taken) ↔ (b ≡ false)
+      taken-false true = (λ e. absurd (taken≢refused e refl), λ e. absurd (true≢false e))
+      taken-false false = (λ _. refl, λ _. refl)
 
-  pub failIf-failed : (b : Bool) → ((b ≡ true) ↔ P) → (f g : Fault) → (failIf b f ≡ Failed g) ↔ ((f ≡ g) × P)
-  failIf-failed true means f g = (λ e. (failed-inj refl e, means .0 refl), λ both. ap Failed (both .0))
-  failIf-failed false means f g = (λ e. absurd (passed≢failed refl e), λ both. absurd (false≢true (means .1 (both .1))))
+  pub refuseIf-refused : (b : Bool) → ((b ≡ true) ↔ P) → (r q : Refusal) → (refuseIf b r ≡ Refused q) ↔ ((r ≡ q) × P)
+  refuseIf-refused true means r q = (λ e. (refused-inj refl e, means .0 refl), λ both. ap Refused (both .0))
+  refuseIf-refused false means r q =
+      (λ e. absurd (taken≢refused refl e), λ both. absurd (false≢true (means .1 (both .1))))
 
-abbrev pub AllPass : (ℕ → Check) → ℕ → Type 0
-AllPass check n = (i : ℕ) → i < n → check i ≡ Passed
+pub priority : Priority _orElse_ Taken
+priority = record { decide = decide; stops = stops; goes-on = λ w. refl }
+  where
+    decide : (v : Verdict) → (v ≡ Taken) ⊎ (v ≢ Taken)
+    decide Taken = inl refl
+    decide (Refused r) = inr (λ e. taken≢refused e refl)
 
-pub record First (check : ℕ → Check) (n : ℕ) (f : Fault) : Type 0 where
-  pub place : ℕ
-  pub below : place < n
-  pub fails : check place ≡ Failed f
-  pub earlier : AllPass check place
+    stops : (v w : Verdict) → v ≢ Taken → v orElse w ≡ v
+    stops Taken w some = absurd (some refl)
+    stops (Refused r) w some = refl
 
-module _ (check : ℕ → Check) where
-  pub each-passed : (n : ℕ) → (each check n ≡ Passed) ↔ AllPass check n
-  unfolding each
-  each-passed zero = (λ _ i below. absurd (omega arith), λ _. refl)
-  each-passed (suc n) = (
-    λ e i below. (let (before, here) = orElse-passed _ _ .0 e in
-        ⊎-elim (λ is. rw is here) (each-passed n .0 before i) (eq-or-lt-of-le (le-of-suc-le-suc below))),
-    λ pass. orElse-passed _ _ .1 (each-passed n .1 (λ i below. pass i (omega arith)), pass n (omega arith)),
-  )
+module _ (check : ℕ → Verdict) (n : ℕ) where
+  pub each-taken : (each check n ≡ Taken) ↔ NoneBelow Taken check n
+  each-taken = fold-none priority check n
 
-  failed-first : (n : ℕ) (f : Fault) → each check n ≡ Failed f → First check n f
-  unfolding each
-  failed-first zero f e = absurd (passed≢failed refl e)
-  failed-first (suc n) f e =
-      ⊎-elim
-      (λ before. let first = failed-first n f before in
-      record { place = first .place; below = omega arith; fails = first .fails; earlier = first .earlier })
-      (λ (pass, here). record { place = n; below = omega arith; fails = here; earlier = each-passed n .0 pass })
-      (orElse-failed _ _ f .0 e)
+  pub each-refused : (r : Refusal) → (each check n ≡ Refused r) ↔ First Taken check n (Refused r)
+  each-refused r = fold-first priority check n (Refused r) (λ e. taken≢refused e refl)
 
-  first-failed : (n : ℕ) (f : Fault) → First check n f → each check n ≡ Failed f
-  unfolding each
-  first-failed zero f first = absurd (omega (arith, first .below))
-  first-failed (suc n) f first =
-      orElse-failed _ _ f .1 (⊎-elim
-      (λ is. inr (each-passed n .1 (rw is at (first .earlier)), rw is at (first .fails)))
-      (λ below. inl (first-failed n f (record { place = first .place; below = below; fails = first .fails; earlier = first .earlier })))
-      (eq-or-lt-of-le (le-of-suc-le-suc (first .below))))
-
-  pub each-failed : (n : ℕ) (f : Fault) → (each check n ≡ Failed f) ↔ First check n f
-  each-failed n f = (failed-first n f, first-failed n f)
-
--- a loop that makes them: those before i pass
-pub record Scanning (check : ℕ → Check) (n i : ℕ) : Type 0 where
+-- a loop that makes the checks of which `whole` is the first that refuses: those before i take
+pub record Scanning (check : ℕ → Verdict) (whole : Verdict) (n i : ℕ) : Type 0 where
+  pub is : whole ≡ each check n
   pub turn : i ≤ n
-  pub passed : each check i ≡ Passed
+  pub taken : each check i ≡ Taken
 
-pub scan-start : (check : ℕ → Check) (n : ℕ) → Scanning check n 0
-unfolding each
-scan-start check n = record { turn = omega arith; passed = refl }
+pub scan-start : {check : ℕ → Verdict} {whole : Verdict} {n : ℕ} (m : ℕ) → n ≡ m → whole ≡ each check m
+    → Scanning check whole n 0
+unfolding fold
+scan-start m all is = record { is = rw all is; turn = omega arith; taken = refl }
 
-module _ {check : ℕ → Check} {n i : ℕ} (scan : Scanning check n i) where
-  pub scan-on : i < n → check i ≡ Passed → Scanning check n (i + 1)
-  unfolding each
-  scan-on below passes = record { turn = omega arith; passed = rw add-one (orElse-passed _ _ .1 (scan .passed, passes)) }
+module _ {check : ℕ → Verdict} {whole : Verdict} {n i : ℕ} (scan : Scanning check whole n i) where
+  pub scan-on : {v : Verdict} → v ≡ check i → v ≡ Taken → i < n → Scanning check whole n (i + 1)
+  unfolding fold
+  scan-on is takes below = record {
+    is = scan .is;
+    turn = omega arith;
+    taken = rw add-one (orElse-taken _ _ .1 (scan .taken, sym is ∙ takes));
+  }
 
-  pub scan-found : {f : Fault} → i < n → check i ≡ Failed f → Failed f ≡ each check n
-  scan-found {f} below fails =
-      sym (each-failed check n f .1 (record { place = i; below = below; fails = fails; earlier = each-passed check i .0 (scan .passed) }))
+  pub scan-found : {v : Verdict} {r : Refusal} → v ≡ check i → v ≡ Refused r → i < n → Refused r ≡ whole
+  scan-found {r} is refuses below = sym (scan .is ∙ each-refused check n r .1 (record {
+    place = i;
+    below = below;
+    here = sym is ∙ refuses;
+    earlier = each-taken check i .0 (scan .taken);
+  }))
 
-  pub scan-none : n ≤ i → Passed ≡ each check n
-  scan-none past = let all : n ≡ i = omega arith in rw all (sym (scan .passed))
+  pub scan-none : n ≤ i → Taken ≡ whole
+  scan-none past = let all : n ≡ i = omega arith in sym (scan .is ∙ rw all (scan .taken))
 
--- a scan whose checks are made by a test
-abbrev pub tested : (ℕ → Bool) → (ℕ → Fault) → ℕ → Check
-tested test fault i = failIf (test i) (fault i)
+pub ruleset scanning = (scan-on, scan-found, scan-none)
 
-pub record Testing (test : ℕ → Bool) (fault : ℕ → Fault) (n i : ℕ) : Type 0 where
-  pub scan : Scanning (tested test fault) n i
+-- the same for checks that a test makes
+abbrev pub tested : (ℕ → Bool) → (ℕ → Refusal) → ℕ → Verdict
+tested test refusal i = refuseIf (test i) (refusal i)
 
-pub test-start : (test : ℕ → Bool) (fault : ℕ → Fault) (n : ℕ) → Testing test fault n 0
-test-start test fault n = record { scan = scan-start (tested test fault) n }
+pub record Testing (test : ℕ → Bool) (refusal : ℕ → Refusal) (whole : Verdict) (n i : ℕ) : Type 0 where
+  pub scan : Scanning (tested test refusal) whole n i
 
-module _ {test : ℕ → Bool} {fault : ℕ → Fault} {n i : ℕ} (testing : Testing test fault n i) where
-  pub test-on : i < n → test i ≡ false → Testing test fault n (i + 1)
-  test-on below fails = record { scan = scan-on (testing .scan) below (ap (λ (b : Bool). failIf b (fault i)) fails) }
+pub test-start : {test : ℕ → Bool} {refusal : ℕ → Refusal} {whole : Verdict} {n : ℕ} (m : ℕ) → n ≡ m
+    → whole ≡ each (tested test refusal) m → Testing test refusal whole n 0
+test-start m all is = record { scan = scan-start m all is }
 
-  pub test-found : i < n → test i ≡ true → Failed (fault i) ≡ each (tested test fault) n
-  test-found below holds = scan-found (testing .scan) below (ap (λ (b : Bool). failIf b (fault i)) holds)
+module _ {test : ℕ → Bool} {refusal : ℕ → Refusal} {whole : Verdict} {n i : ℕ}
+    (testing : Testing test refusal whole n i) where
+  by-test : {b : Bool} → test i ≡ b → refuseIf b (refusal i) ≡ tested test refusal i
+  by-test is = ap (λ (b : Bool). refuseIf b (refusal i)) (sym is)
 
-  pub test-none : n ≤ i → Passed ≡ each (tested test fault) n
-  test-none past = scan-none (testing .scan) past
+  pub test-on : {b : Bool} → b ≡ test i → b ≡ false → i < n → Testing test refusal whole n (i + 1)
+  test-on is fails below = record { scan = scan-on (testing .scan) (by-test (sym is ∙ fails)) refl below }
 
--- two checks, of which the first fails, or passes
-pub orElse-stops : {a : Check} {f : Fault} (b : Check) → a ≡ Failed f → a orElse b ≡ Failed f
-orElse-stops b fails = ap (λ (c : Check). c orElse b) fails
+  pub test-found : {b : Bool} {v : Verdict} → b ≡ test i → b ≡ true → i < n → v ≡ Refused (refusal i) → v ≡ whole
+  test-found is holds below refuses = refuses ∙ scan-found (testing .scan) (by-test (sym is ∙ holds)) refl below
 
-pub orElse-goes-on : {a b c : Check} → a ≡ Passed → b ≡ c → a orElse b ≡ c
-orElse-goes-on {b} passes rest = ap (λ (d : Check). d orElse b) passes ∙ rest
+  pub test-none : n ≤ i → Taken ≡ whole
+  test-none = scan-none (testing .scan)
+
+pub ruleset testing = (test-on, test-found, test-none)
+
+-- two checks, of which the first refuses, or takes
+pub orElse-stops : {v : Verdict} {r : Refusal} (w : Verdict) → v ≡ Refused r → v orElse w ≡ Refused r
+orElse-stops w refuses = ap (λ (u : Verdict). u orElse w) refuses
+
+pub orElse-goes-on : {v w u : Verdict} → v ≡ Taken → w ≡ u → v orElse w ≡ u
+orElse-goes-on {w} takes rest = ap (λ (x : Verdict). x orElse w) takes ∙ rest
+
+first-one : (v : Verdict) → first (v ∷ []) ≡ v
+first-one Taken = refl
+first-one (Refused r) = refl
+
+-- of a list whose first check answers u
+pub first-stops : {u : Verdict} {r : Refusal} (v w : Verdict) → u ≡ v → u ≡ Refused r → Refused r ≡ v orElse w
+first-stops v w is refuses = sym (orElse-stops w (sym is ∙ refuses))
+
+pub first-goes-on : {u x : Verdict} (v w : Verdict) → u ≡ v → u ≡ Taken → x ≡ w → x ≡ v orElse w
+first-goes-on v w is takes rest = sym (orElse-goes-on (sym is ∙ takes) (sym rest))
+
+pub first-last : {u : Verdict} (v : Verdict) → u ≡ v → u ≡ v orElse Taken
+first-last v is = is ∙ sym (first-one v)
+
+first-append : (vs ws : List Verdict) → first (vs ++ ws) ≡ first vs orElse first ws
+first-append [] ws = refl
+first-append (v ∷ vs) ws = ap (λ (x : Verdict). v orElse x) (first-append vs ws) ∙ orElse-assoc v (first vs) (first ws)
+  where
+    orElse-assoc : (u v w : Verdict) → u orElse (v orElse w) ≡ (u orElse v) orElse w
+    orElse-assoc Taken v w = refl
+    orElse-assoc (Refused r) v w = refl
+
+-- two lists of checks, of which the first refuses, or takes
+module _ (vs ws : List Verdict) where
+  pub append-stops : {r : Refusal} → first vs ≡ Refused r → first (vs ++ ws) ≡ Refused r
+  append-stops refuses = first-append vs ws ∙ orElse-stops (first ws) refuses
+
+  pub append-goes-on : first vs ≡ Taken → first (vs ++ ws) ≡ first ws
+  append-goes-on takes = first-append vs ws ∙ orElse-goes-on takes refl

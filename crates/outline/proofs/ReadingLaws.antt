@@ -1,43 +1,42 @@
 -- What reading answers, as callers see it.
 --     reading-taken      the list is taken exactly where its length is even and it gives an accepted outline
---     reading-refused    it is refused for a fault exactly where the fault applies and none before it does
+--     reading-refused    it is refused exactly where a condition applies, with the refusal of the first that does
 -- Of a list that is taken:
 --     reading-outline, reading-cornersOf    the value that is read holds an accepted outline, with the corners of the list
 --     reading-count, reading-corner         the count is half its length; corner i is numbers 2 i and 2 i + 1
-use Prim.Native.Nat.{ℕ, _+_, _*_, _/_, _%_, _<_}
+use Prim.Native.Nat.{ℕ, _+_, _*_, _/_, _<_}
 use mathlib.Core.Path.{_≡_, ap, _∙_}
-use mathlib.Core.Logic.{_↔_, Iff·trans}
+use mathlib.Core.Logic.{_↔_}
 use mathlib.Core.List.{List, []}
 use lib.IntN.{ℤ, pos}
 use lib.ListN.{length, getD}
-use Rattle.outline.specs.declared.Check.{Check}
-use Rattle.outline.specs.declared.Fault.{Fault}
 use Rattle.outline.specs.declared.Outline.{Outline}
+use Rattle.outline.specs.declared.Refusal.{Refusal}
 use Rattle.outline.specs.declared.RefusedSide.{RefusedSide}
+use Rattle.outline.specs.declared.Verdict.{Verdict}
 use Rattle.outline.specs.declared.Verdict.the-variants.{Taken, Refused}
-use Rattle.outline.specs.Applies.{Applies, rank}
-use Rattle.outline.specs.Checks.{ifPassed}
-use Rattle.outline.specs.Convex.{Accepted, IsOutline}
+use Rattle.outline.specs.Checks.{ifTaken}
+use Rattle.outline.specs.Conditions.{readingConditions, AcceptedList}
+use Rattle.outline.specs.Convex.{IsOutline}
 use Rattle.outline.specs.Corners.{corners, corner, held, cornersOf}
-use Rattle.outline.specs.Reading.{check, reading}
-use Rattle.outline.specs.Refusal.{refusal}
-use Rattle.outline.proofs.Acceptance.{accepted, first-stands}
+use Rattle.outline.specs.Reading.{reading}
+use Rattle.outline.specs.Refusal.{FirstFault}
+use Rattle.outline.proofs.Acceptance.{accepted, check-refused}
 use Rattle.outline.proofs.CornersLaws.{length-corners, corner-at}
 use Rattle.outline.proofs.HeldLaws.{held-corner, cornersOf-held, held-outline}
-use Rattle.outline.proofs.RefusalLaws.{verdict-taken, verdict-refused}
 
 module _ (whose : RefusedSide) (s : List ℤ) where
-  pub reading-taken : (reading whose s .verdict ≡ Taken) ↔ ((length s % 2 ≡ 0) × Accepted (corners s))
-  reading-taken = Iff·trans (verdict-taken whose (check s)) (accepted s)
+  pub reading-taken : (reading whose s .verdict ≡ Taken) ↔ AcceptedList s
+  reading-taken = accepted whose s
 
-  pub reading-refused : (f : Fault)
-      → (reading whose s .verdict ≡ Refused (refusal whose f)) ↔ (Applies s f × ((g : Fault) → rank g < rank f → ¬ Applies s g))
-  reading-refused f = Iff·trans (verdict-refused whose (check s) f) (first-stands s f)
+  pub reading-refused : (r : Refusal)
+      → (reading whose s .verdict ≡ Refused r) ↔ FirstFault (readingConditions whose s) r
+  reading-refused = check-refused whose s
 
   module _ (taken : reading whose s .verdict ≡ Taken) where
     reading-holds : reading whose s .outline ≡ held (corners s)
     reading-holds =
-        ap (λ (c : Check). ifPassed c (held (corners s)) (held [])) (verdict-taken whose (check s) .0 taken)
+        ap (λ (v : Verdict). ifTaken v (held (corners s)) (held [])) taken
 
     pub reading-outline : IsOutline (reading whose s .outline)
     reading-outline = rw reading-holds (held-outline (corners s) (reading-taken .0 taken .1))

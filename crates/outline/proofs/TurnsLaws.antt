@@ -1,21 +1,18 @@
 -- The test of strict convexity in one pass is right.
---     all-true             `all` holds exactly where the test passes at each number below n
 --     isConvex-true        corners pass the test exactly where they are strictly convex
---     Passing, pass-..     the invariant of a loop that makes tests in order, and its steps
-use Prim.Native.Nat.{ℕ, zero, suc, _+_, _-_, _<_, _≤_}
+use Prim.Native.Nat.{ℕ, zero, suc, _-_, _<_}
 use native.Mathlib.Decide.{ℕ-discrete}
-use native.Mathlib.Nat.{eq-or-lt-of-le, le-of-suc-le-suc}
-use native.Mathlib.Numerals.{add-one}
 use native.Mathlib.Omega.{arith}
-use mathlib.Core.Bool.{Bool, true, false, true≢false}
+use mathlib.Core.Bool.{true}
 use mathlib.Core.List.{List}
-use mathlib.Core.Logic.{_↔_, Iff·trans, ⊎-elim}
-use mathlib.Core.Path.{_≡_, refl, sym, _∙_}
+use mathlib.Core.Logic.{_↔_, Iff·trans}
+use mathlib.Core.Path.{_≡_}
 use lib.IntN.{pos}
 use lib.ListN.{length}
 use lib.Signed.{_<ℤ_}
 use Rattle.integers.proofs.Order.{ltZ-true, <ℤ-ltZ}
-use Rattle.integers.proofs.Reflect.{test-and, test-false}
+use Rattle.integers.proofs.Reflect.{test-and}
+use Rattle.lists.proofs.FoldLaws.{all-true}
 use Rattle.plane.specs.declared.Corner.{Corner}
 use Rattle.plane.specs.declared.Vector.{Vector}
 use Rattle.plane.specs.Vector.{_⇀_, cross}
@@ -23,36 +20,8 @@ use Rattle.plane.proofs.Algebra.{side-end}
 use Rattle.plane.proofs.Cone.{left-trans}
 use Rattle.outline.specs.Convex.{StrictlyConvex}
 use Rattle.outline.specs.Corners.{corner}
-use Rattle.outline.specs.Turns.{all, keepsLeftAt, isConvex}
+use Rattle.outline.specs.Turns.{keepsLeftAt, isConvex}
 use Rattle.outline.proofs.LeftTurns.{Left, LeftTurns, left-turn, left-turn-back, convex-turns, turns-convex}
-
-pub all-true : (test : ℕ → Bool) (n : ℕ) → (all test n ≡ true) ↔ ((i : ℕ) → i < n → test i ≡ true)
-unfolding all
-all-true test zero = (λ _ i below. absurd (omega arith), λ _. refl)
-all-true test (suc n) = Iff·trans (test-and (all test n) (test n) (all-true test n) (λ e. e, λ e. e)) (
-  λ (before, here) i below. ⊎-elim (λ is. rw is here) (before i) (eq-or-lt-of-le (le-of-suc-le-suc below)),
-  λ passes. (λ i below. passes i (omega arith), passes n (omega arith)),
-)
-
--- a loop that makes the tests: those before i pass
-pub record Passing (test : ℕ → Bool) (n i : ℕ) : Type 0 where
-  pub turn : i ≤ n
-  pub passed : all test i ≡ true
-
-pub pass-start : (test : ℕ → Bool) (n : ℕ) → Passing test n 0
-unfolding all
-pass-start test n = record { turn = omega arith; passed = refl }
-
-module _ {test : ℕ → Bool} {n i : ℕ} (passing : Passing test n i) where
-  pub pass-on : i < n → test i ≡ true → Passing test n (i + 1)
-  unfolding all
-  pass-on below passes = record { turn = omega arith; passed = rw (add-one, passing .passed, passes) }
-
-  pub pass-stop : i < n → test i ≡ false → false ≡ all test n
-  pass-stop below fails = sym (test-false (all test n) (all-true test n) .1 (λ every. true≢false (sym (every i below) ∙ fails)))
-
-  pub pass-all : n ≤ i → true ≡ all test n
-  pass-all past = let done : n ≡ i = omega arith in rw done (sym (passing .passed))
 
 module _ (cs : List Corner) where
   -- what the three tests of corner i + 2 say

@@ -1,27 +1,33 @@
--- Checks made in order, of which the first that fails stands.
---     failIf      a check that fails where a test holds
---     _orElse_    the first check, or the second where the first passes
---     each        the checks at 0, 1, .. below n
---     ifPassed    one value where a check passes, another where it fails
-use Prim.Native.Nat.{ℕ, zero, suc}
+-- Checks made in order, of which the first that refuses stands.
+--     refuseIf    a check that refuses where a test holds
+--     _orElse_    the first check's verdict, or the second's where the first takes
+--     first       the first verdict of a list that refuses, or Taken
+--     each        the same for the checks at 0, 1, .. below n
+--     ifTaken     one value where a verdict is Taken, another where it is Refused
+use Prim.Native.Nat.{ℕ}
 use mathlib.Core.Bool.{Bool, true, false}
-use Rattle.outline.specs.declared.Fault.{Fault}
-use Rattle.outline.specs.declared.Check.{Check}
-use Rattle.outline.specs.declared.Check.the-variants.{Passed, Failed}
+use mathlib.Core.List.{List, [], _∷_}
+use Rattle.lists.specs.Fold.{fold}
+use Rattle.outline.specs.declared.Refusal.{Refusal}
+use Rattle.outline.specs.declared.Verdict.{Verdict}
+use Rattle.outline.specs.declared.Verdict.the-variants.{Taken, Refused}
+
+abbrev pub refuseIf : Bool → Refusal → Verdict
+refuseIf true r = Refused r
+refuseIf false r = Taken
 
 infixl 30 _orElse_
-abbrev pub failIf : Bool → Fault → Check
-failIf true f = Failed f
-failIf false f = Passed
+abbrev pub _orElse_ : Verdict → Verdict → Verdict
+Taken orElse w = w
+Refused r orElse w = Refused r
 
-abbrev pub _orElse_ : Check → Check → Check
-Passed orElse d = d
-Failed f orElse d = Failed f
+abbrev pub first : List Verdict → Verdict
+first [] = Taken
+first (v ∷ vs) = v orElse first vs
 
-unfoldable pub each : (ℕ → Check) → ℕ → Check
-each check zero = Passed
-each check (suc n) = each check n orElse check n
+abbrev pub each : (ℕ → Verdict) → ℕ → Verdict
+each check n = fold _orElse_ Taken check n
 
-abbrev pub ifPassed : {A : Type 0} → Check → A → A → A
-ifPassed Passed a b = a
-ifPassed (Failed f) a b = b
+abbrev pub ifTaken : {A : Type 0} → Verdict → A → A → A
+ifTaken Taken a b = a
+ifTaken (Refused r) a b = b

@@ -1,5 +1,6 @@
 -- Which lists of corners are accepted.
 --     AllInRange        every coordinate is in range
+--     LeftOf            a corner is strictly left of an edge
 --     StrictlyConvex    every corner other than an edge's two ends is strictly left of the edge
 --     Polygon           strictly convex, of three corners or more: what the laws of geometry ask, with no range and no limit of 256
 --     Accepted          document 01: an outline is accepted
@@ -19,11 +20,14 @@ use Rattle.outline.specs.Corners.{corner, next, fewest, most, cornersOf}
 abbrev pub AllInRange : List Corner → Type 0
 AllInRange cs = (i : ℕ) → i < length cs → InRange (corner cs i)
 
+-- corner c is strictly left of edge e: its side number is positive
+abbrev pub LeftOf : List Corner → ℕ → ℕ → Type 0
+LeftOf cs e c = pos 0 <ℤ side (corner cs e) (corner cs (next (length cs) e)) (corner cs c)
+
 -- every corner other than an edge's two ends is strictly left of that edge, for every edge
 abbrev pub StrictlyConvex : List Corner → Type 0
 StrictlyConvex cs =
-    (e c : ℕ) → e < length cs → c < length cs → c ≢ e → c ≢ next (length cs) e
-    → pos 0 <ℤ side (corner cs e) (corner cs (next (length cs) e)) (corner cs c)
+    (e c : ℕ) → e < length cs → c < length cs → c ≢ e → c ≢ next (length cs) e → LeftOf cs e c
 
 pub record Polygon (cs : List Corner) : Type 0 where
   pub at-least : 3 ≤ length cs

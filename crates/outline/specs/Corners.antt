@@ -4,6 +4,7 @@
 --     next       the number of the following corner; after the last comes corner 0.
 --                Edge i runs from corner i to corner next n i
 --     previous   the number of the corner before; before corner 0 comes the last
+--     edge       the differences of the edge with a number
 --     fewest, most    how many corners an outline has
 --     held       an outline as one value
 --     cornersOf  the corners of such a value
@@ -14,6 +15,8 @@ use lib.Dec.{ltb}
 use lib.IntN.{ℤ, pos}
 use lib.ListN.{length, getD, replicate, take}
 use Rattle.plane.specs.declared.Corner.{Corner}
+use Rattle.plane.specs.declared.Vector.{Vector}
+use Rattle.plane.specs.Vector.{_⇀_}
 use Rattle.outline.specs.declared.Outline.{Outline}
 
 -- a number left over at the end gives no corner
@@ -34,6 +37,10 @@ next n i = cond (ltb (suc i) n) (suc i) 0
 abbrev pub previous : ℕ → ℕ → ℕ
 previous n zero = n - 1
 previous n (suc i) = i
+
+-- edge i runs from corner i to the following one: its differences
+abbrev pub edge : List Corner → ℕ → Vector
+edge cs i = corner cs i ⇀ corner cs (next (length cs) i)
 
 -- an outline has 3 to 256 corners
 abbrev pub fewest : ℕ

@@ -2,7 +2,7 @@
 pub mod Corners
 pub mod Convex
 pub mod Refusal
+pub mod Conditions
 pub mod Checks
 pub mod Turns
 pub mod Reading
-pub mod Applies

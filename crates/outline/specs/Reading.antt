@@ -1,67 +1,81 @@
--- Document 01: reading an outline. A check for each refusal, in document 01's order.
---     check      the checks of a list of numbers
---     reading    what reading gives
+-- Document 01: reading an outline. A check for each condition, in document 01's order.
+--     lengthChecks, cornerChecks, checks    the checks of a list of numbers: of its length, of its corners, all
+--     check                                 what the first that refuses answers
+--     reading                               what reading gives
+-- `whose` is the side that a refusal names. `proofs/Acceptance.antt` shows that the checks decide the conditions.
 use Prim.Native.Nat.{ℕ, _%_}
 use mathlib.Core.Bool.{Bool, not, _&&_}
-use mathlib.Core.List.{List, []}
+use mathlib.Core.List.{List, [], _∷_, _++_}
 use lib.Dec.{eqb, ltb}
-use lib.IntN.{ℤ, pos}
-use lib.Signed.{leZ}
+use lib.IntN.{ℤ}
 use lib.ListN.{length}
 use Rattle.plane.specs.declared.Corner.{Corner}
 use Rattle.plane.specs.Range.{inRange}
-use Rattle.plane.specs.Vector.{side, same}
-use Rattle.outline.specs.declared.Fault.the-variants.{OddLength, TooFewCorners, TooManyCorners, OutOfRange, Repeated, NotLeft}
-use Rattle.outline.specs.declared.Check.{Check}
+use Rattle.plane.specs.Vector.{isLeft, same}
+use Rattle.outline.specs.declared.Place.the-variants.{Nowhere, At, EdgeAndCorner}
 use Rattle.outline.specs.declared.RefusedSide.{RefusedSide}
+use Rattle.outline.specs.declared.Verdict.{Verdict}
 use Rattle.outline.specs.declared.Reading.{Reading}
-use Rattle.outline.specs.Corners.{corners, corner, next, held, fewest, most}
-use Rattle.outline.specs.Refusal.{verdict}
-use Rattle.outline.specs.Checks.{failIf, _orElse_, each, ifPassed}
+use Rattle.outline.specs.Corners.{corners, corner, next, edge, held, fewest, most}
+use Rattle.outline.specs.Refusal.{refusal}
+use Rattle.outline.specs.Conditions.{oddLength, tooFew, tooMany, outOfRange, repeated, notLeft}
+use Rattle.outline.specs.Checks.{refuseIf, first, each, ifTaken}
 
--- 1, the list has an odd length
-abbrev pub oddLength : List ℤ → Check
-oddLength s = failIf (eqb (length s % 2) 1) OddLength
+-- 4, tested: corner i is out of range
+abbrev pub isOutOfRange : List Corner → ℕ → Bool
+isOutOfRange cs i = not (inRange (corner cs i))
 
--- 2, fewer than 3 corners
-abbrev pub tooFew : List Corner → Check
-tooFew cs = failIf (ltb (length cs) fewest) TooFewCorners
+-- 5, tested: corner i is equal to the following one
+abbrev pub isRepeated : List Corner → ℕ → Bool
+isRepeated cs i = same (corner cs i) (corner cs (next (length cs) i))
 
--- 3, more than 256 corners
-abbrev pub tooMany : List Corner → Check
-tooMany cs = failIf (ltb most (length cs)) TooManyCorners
-
--- 4, a coordinate out of range; the place is the first such corner
-unfoldable pub outOfRange : List Corner → Check
-outOfRange cs = each (λ i. failIf (not (inRange (corner cs i))) (OutOfRange i)) (length cs)
-
--- 5, a corner equal to the following one (the last against corner 0); the place is the first such corner
-unfoldable pub repeated : List Corner → Check
-repeated cs = each (λ i. failIf (same (corner cs i) (corner cs (next (length cs) i))) (Repeated i)) (length cs)
-
--- 6, some corner is not strictly left of an edge; the place is the lowest such edge and then its lowest such corner.
--- `notLeftOf cs e` is the check of edge e against all corners, its two ends left out
+-- 6, tested: corner c is no end of edge e and not strictly left of it
 abbrev pub isNotLeft : List Corner → ℕ → ℕ → Bool
 isNotLeft cs e c =
     not (eqb c e)
     && not (eqb c (next (length cs) e))
-    && leZ (side (corner cs e) (corner cs (next (length cs) e)) (corner cs c)) (pos 0)
+    && not (isLeft (corner cs e) (edge cs e) (corner cs c))
 
-unfoldable pub notLeftOf : List Corner → ℕ → Check
-notLeftOf cs e = each (λ c. failIf (isNotLeft cs e c) (NotLeft e c)) (length cs)
+module _ (whose : RefusedSide) where
+  -- 1
+  abbrev pub checkOddLength : List ℤ → Verdict
+  checkOddLength s = refuseIf (eqb (length s % 2) 1) (refusal (oddLength whose s) Nowhere)
 
-unfoldable pub notLeft : List Corner → Check
-notLeft cs = each (notLeftOf cs) (length cs)
+  -- 2
+  abbrev pub checkFewest : List Corner → Verdict
+  checkFewest cs = refuseIf (ltb (length cs) fewest) (refusal (tooFew whose cs) Nowhere)
 
-unfoldable pub check : List ℤ → Check
-check s =
-    oddLength s
-    orElse tooFew (corners s)
-    orElse tooMany (corners s)
-    orElse outOfRange (corners s)
-    orElse repeated (corners s)
-    orElse notLeft (corners s)
+  -- 3
+  abbrev pub checkMost : List Corner → Verdict
+  checkMost cs = refuseIf (ltb most (length cs)) (refusal (tooMany whose cs) Nowhere)
 
--- a refused list gives an outline without corners
-abbrev pub reading : RefusedSide → List ℤ → Reading
-reading whose s = record { verdict = verdict whose (check s); outline = ifPassed (check s) (held (corners s)) (held []) }
+  abbrev pub lengthChecks : List ℤ → List Verdict
+  lengthChecks s = checkOddLength s ∷ checkFewest (corners s) ∷ checkMost (corners s) ∷ []
+
+  -- 4
+  unfoldable pub checkRange : List Corner → Verdict
+  checkRange cs = each (λ i. refuseIf (isOutOfRange cs i) (refusal (outOfRange whose cs) (At i))) (length cs)
+
+  -- 5
+  unfoldable pub checkRepeated : List Corner → Verdict
+  checkRepeated cs = each (λ i. refuseIf (isRepeated cs i) (refusal (repeated whose cs) (At i))) (length cs)
+
+  -- 6, of one edge and of all
+  unfoldable pub checkEdge : List Corner → ℕ → Verdict
+  checkEdge cs e = each (λ c. refuseIf (isNotLeft cs e c) (refusal (notLeft whose cs) (EdgeAndCorner e c))) (length cs)
+
+  unfoldable pub checkConvex : List Corner → Verdict
+  checkConvex cs = each (checkEdge cs) (length cs)
+
+  abbrev pub cornerChecks : List Corner → List Verdict
+  cornerChecks cs = checkRange cs ∷ checkRepeated cs ∷ checkConvex cs ∷ []
+
+  abbrev pub checks : List ℤ → List Verdict
+  checks s = lengthChecks s ++ cornerChecks (corners s)
+
+  unfoldable pub check : List ℤ → Verdict
+  check s = first (checks s)
+
+  -- a refused list gives an outline without corners
+  abbrev pub reading : List ℤ → Reading
+  reading s = record { verdict = check s; outline = ifTaken (check s) (held (corners s)) (held []) }

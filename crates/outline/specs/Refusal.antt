@@ -1,44 +1,61 @@
--- Document 01's refusals.
---     number, place    document 01's number and place of each fault
---     refusal          the refusal for a fault
---     verdict          the verdict of a call whose checks found this
+-- Document 01's refusals: a call has conditions in an order, and the first that applies stands.
+--     Condition                                   a condition: its number, the side that it is about, and at which
+--                                                 places it applies
+--     withoutPlace, atNumber, atEdgeAndCorner     what a condition says of the place
+--     refusal                                     the refusal under a condition, with its place
+--     Gives, Applies                              a refusal comes under a condition; some does
+--     FirstFault, NoneApplies                     a refusal comes under the first of some conditions that applies; none
+--                                                 applies
 use Prim.Native.Nat.{ℕ}
-use Rattle.outline.specs.declared.Fault.{Fault}
-use Rattle.outline.specs.declared.Fault.the-variants.{OddLength, TooFewCorners, TooManyCorners, OutOfRange, Repeated, NotLeft, PointOutOfRange, NoSuchCorner, WrongLength}
-use Rattle.outline.specs.declared.Check.{Check}
-use Rattle.outline.specs.declared.Check.the-variants.{Passed, Failed}
-use Rattle.outline.specs.declared.RefusedSide.{RefusedSide}
+use mathlib.Core.Path.{_≡_}
+use mathlib.Core.Logic.{_⊎_}
+use mathlib.Core.List.{List, [], _∷_}
 use Rattle.outline.specs.declared.Place.{Place}
 use Rattle.outline.specs.declared.Place.the-variants.{Nowhere, At, EdgeAndCorner}
 use Rattle.outline.specs.declared.Refusal.{Refusal}
-use Rattle.outline.specs.declared.Verdict.{Verdict}
-use Rattle.outline.specs.declared.Verdict.the-variants.{Taken, Refused}
+use Rattle.outline.specs.declared.RefusedSide.{RefusedSide}
 
-abbrev pub number : Fault → ℕ
-number OddLength = 1
-number TooFewCorners = 2
-number TooManyCorners = 3
-number (OutOfRange i) = 4
-number (Repeated i) = 5
-number (NotLeft e c) = 6
-number PointOutOfRange = 7
-number NoSuchCorner = 8
-number WrongLength = 9
+-- what a refusal comes under: its number, the side that it is about, and the places at which it applies
+pub record Condition : Type 1 where
+  pub number : ℕ
+  pub side : RefusedSide
+  pub applies : Place → Type 0
 
-abbrev pub place : Fault → Place
-place OddLength = Nowhere
-place TooFewCorners = Nowhere
-place TooManyCorners = Nowhere
-place (OutOfRange i) = At i
-place (Repeated i) = At i
-place (NotLeft e c) = EdgeAndCorner e c
-place PointOutOfRange = Nowhere
-place NoSuchCorner = Nowhere
-place WrongLength = Nowhere
+-- the place: none
+abbrev pub withoutPlace : Type 0 → Place → Type 0
+withoutPlace P Nowhere = P
+withoutPlace P (At i) = ⊥
+withoutPlace P (EdgeAndCorner e c) = ⊥
 
-abbrev pub refusal : RefusedSide → Fault → Refusal
-refusal whose f = record { number = number f; side = whose; place = place f }
+-- one number
+abbrev pub atNumber : (ℕ → Type 0) → Place → Type 0
+atNumber P Nowhere = ⊥
+atNumber P (At i) = P i
+atNumber P (EdgeAndCorner e c) = ⊥
 
-abbrev pub verdict : RefusedSide → Check → Verdict
-verdict whose Passed = Taken
-verdict whose (Failed f) = Refused (refusal whose f)
+-- an edge and a corner
+abbrev pub atEdgeAndCorner : (ℕ → ℕ → Type 0) → Place → Type 0
+atEdgeAndCorner P Nowhere = ⊥
+atEdgeAndCorner P (At i) = ⊥
+atEdgeAndCorner P (EdgeAndCorner e c) = P e c
+
+-- the condition's number and side, with a place
+abbrev pub refusal : Condition → Place → Refusal
+refusal c p = record { number = c .number; side = c .side; place = p }
+
+-- the refusal comes under the condition: it is the condition's, at a place at which that applies
+abbrev pub Gives : Condition → Refusal → Type 0
+Gives c r = (p : Place) × c .applies p × (refusal c p ≡ r)
+
+-- at some place
+abbrev pub Applies : Condition → Type 0
+Applies c = (p : Place) × c .applies p
+
+-- where several apply, the first stands
+abbrev pub FirstFault : List Condition → Refusal → Type 0
+FirstFault [] r = ⊥
+FirstFault (c ∷ cs) r = Gives c r ⊎ ((¬ Applies c) × FirstFault cs r)
+
+abbrev pub NoneApplies : List Condition → Type 0
+NoneApplies [] = Unit {0}
+NoneApplies (c ∷ cs) = (¬ Applies c) × NoneApplies cs

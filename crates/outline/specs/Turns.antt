@@ -1,27 +1,17 @@
 -- Strict convexity, tested in one pass over the corners.
---     all          a test passes at 0, 1, .. below n
---     isLeft       v is strictly left of the line that starts at `from` and has the differences `run`
 --     keepsLeft    the tests of a corner: against edge 0, the line from corner 0 to the corner before, and the edge to that corner
 --     keepsLeftAt  the tests of corner i + 2
 --     isConvex     every corner after the first two passes them
--- For the code alone, but for `all`: `proofs/TurnsLaws.antt` shows that corners pass exactly where they are `StrictlyConvex`.
-use Prim.Native.Nat.{ℕ, zero, suc, _-_}
-use mathlib.Core.Bool.{Bool, true, _&&_}
+-- For the code alone: `proofs/TurnsLaws.antt` shows that corners pass exactly where they are `StrictlyConvex`.
+use Prim.Native.Nat.{ℕ, suc, _-_}
+use mathlib.Core.Bool.{Bool, _&&_}
 use mathlib.Core.List.{List}
-use lib.IntN.{pos}
 use lib.ListN.{length}
-use lib.Signed.{ltZ}
+use Rattle.lists.specs.Fold.{all}
 use Rattle.plane.specs.declared.Corner.{Corner}
 use Rattle.plane.specs.declared.Vector.{Vector}
-use Rattle.plane.specs.Vector.{_⇀_, cross}
+use Rattle.plane.specs.Vector.{_⇀_, isLeft}
 use Rattle.outline.specs.Corners.{corner}
-
-unfoldable pub all : (ℕ → Bool) → ℕ → Bool
-all test zero = true
-all test (suc n) = all test n && test n
-
-abbrev pub isLeft : Corner → Vector → Corner → Bool
-isLeft from run v = ltZ (pos 0) (cross run (from ⇀ v))
 
 -- v comes after p and q; edge 0 starts at `from` and has the differences `run`
 abbrev pub keepsLeft : Corner → Vector → Corner → Corner → Corner → Bool

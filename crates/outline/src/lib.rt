@@ -1,4 +1,4 @@
-// What reading an outline answers: the value that holds an accepted one, and what is refused and why.
+// An outline as a value, and what is refused and why.
 use plane::Corner;
 
 // How few and how many corners an outline can have.
@@ -12,11 +12,16 @@ pub struct Outline {
     pub corners: [Corner; MOST],
 }
 
+// One of the two outlines of a call that takes two.
+pub enum Side {
+    A,
+    B,
+}
+
 // The side of a refusal: none in a call with one outline.
 pub enum RefusedSide {
     NoSide,
-    A,
-    B,
+    Of(Side),
 }
 
 // The place of a refusal: none, one number, or an edge and a corner.
@@ -33,7 +38,7 @@ pub struct Refusal {
     pub place: Place,
 }
 
-// Whether a call takes what it is handed.
+// Whether a call, or one of its checks, takes what it is handed.
 pub enum Verdict {
     Taken,
     Refused(Refusal),
@@ -43,23 +48,4 @@ pub enum Verdict {
 pub struct Reading {
     pub verdict: Verdict,
     pub outline: Outline,
-}
-
-// What is wrong with what a call was handed, as the checks find it. `specs/Refusal.antt` has document 01's number and place for each.
-pub enum Fault {
-    OddLength,
-    TooFewCorners,
-    TooManyCorners,
-    OutOfRange(usize),
-    Repeated(usize),
-    NotLeft(usize, usize),
-    PointOutOfRange,
-    NoSuchCorner,
-    WrongLength,
-}
-
-// What one check finds.
-pub enum Check {
-    Passed,
-    Failed(Fault),
 }

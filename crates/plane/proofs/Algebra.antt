@@ -14,16 +14,17 @@
 --     cramer-dot, cramer-cross        the same, dotted with u; crossed with g
 --     dot-self                        a squared length is not negative
 --     lagrange, cauchy-schwarz        cross² + dot² is the product of the squared lengths; so dot² is at most that
---     apart-0                         points at squared distance 0 are the same
+--     apart-0, distinct-length        points at squared distance 0 are the same; others are farther apart
 --     turn-length, cross-length       a vector with another strictly on its left has a length; and so has that other
 use Prim.Native.Nat.{ℕ, suc}
 use mathlib.Core.Path.{_≡_}
-use mathlib.Core.Logic.{_↔_}
+use mathlib.Core.Logic.{_↔_, _≢_}
 use mathlib.Core.List.{List, [], _∷_}
 use lib.IntN.{ℤ, pos, negℤ, _+ℤ_, _*ℤ_}
 use lib.Signed.{_≤ℤ_, _<ℤ_}
 use Rattle.integers.proofs.Polynomial.{Expr, var, lit, ⊝_, _⊕_, _⊖_, _⊗_, solve}
 use Rattle.integers.proofs.Certificate.{_≺_, _≼_, _≗_, hyp, sq, _⊞_, _⊠_, prove}
+use Rattle.integers.proofs.Order.{≰ℤ-<ℤ}
 use Rattle.plane.specs.Vector.{_⇀_, cross, dot, side, coordinates}
 use Rattle.plane.specs.declared.Corner.{Corner}
 use Rattle.plane.specs.declared.Vector.{Vector}
@@ -153,6 +154,9 @@ apart-0 p q none =
       x = prove (coordinates (p ∷ q ∷ [])) (dotE a a ≼ O ∷ []) (p' .x ≗ q' .x) (hyp 0 ⊠ hyp 0 ⊞ hyp 1 ⊞ sq (a .y)) tt none i;
       y = prove (coordinates (p ∷ q ∷ [])) (dotE a a ≼ O ∷ []) (p' .y ≗ q' .y) (hyp 0 ⊠ hyp 0 ⊞ hyp 1 ⊞ sq (a .x)) tt none i;
     }
+
+pub distinct-length : (p q : Corner) → p ≢ q → pos 0 <ℤ dot (p ⇀ q) (p ⇀ q)
+distinct-length p q other = ≰ℤ-<ℤ (λ none. other (apart-0 p q none))
 
 -- of two vectors that turn left neither is 0
 pub turn-length : (d e : Vector) → pos 0 <ℤ cross d e → pos 0 <ℤ dot d d

@@ -5,7 +5,7 @@
 --     product-fits                          of two components within reach
 --     minus-fits, plus-fits                 of two such products
 --     cross-is, dot-is                      the products of two vectors within reach
---     cross-local, dot-local                the same as a caller of `side`, `dot` or `squared_length` has it in a local
+--     cross-local, dot-local                the same as a caller of `cross`, `dot`, `squared_length` has it in a local
 -- Every hypothesis shows its numbers, so that `search` finds it in what a need is handed.
 use mathlib.Core.Path.{_≡_}
 use Prim.Native.Nat.{_+_, _*_, _^_}

@@ -1,9 +1,9 @@
-// Points and vectors of the plane with whole coordinates, points with fractions, and the side number.
+// Points and vectors of the plane with whole coordinates, points with fractions, and the side number with its signs.
 ghost use mathlib.Core.Path.{_≡_};
-ghost use Rattle.plane.specs.Vector.{_⇀_, cross, dot, same};
+ghost use Rattle.plane.specs.Vector.{_⇀_, cross, dot, isLeft, isRight, same};
 ghost use Rattle.integers.specs.Equal.{eqZ};
 ghost use Rattle.plane.specs.Point.{whole};
-ghost use Rattle.plane.specs.Range.{Span, reach, isCoordinate, inRange};
+ghost use Rattle.plane.specs.Range.{InRange, Span, reach, isCoordinate, inRange};
 
 // A point with whole coordinates; a corner of an outline.
 pub struct Corner {
@@ -49,14 +49,15 @@ pub fn difference(p: Corner, q: Corner) -> Vector
     }
 }
 
-// Document 01: the side number, of a point against an edge. `edge` has the edge's differences and `to` those from the edge's start
-// to the point. Of the differences of two edges it is the number whose sign orders their directions.
-pub fn side(edge: Vector, to: Vector) -> i64
-    requires { ⌜ Span reach edge ⌝ }
-    requires { ⌜ Span reach to ⌝ }
-    ensures { λ r. ⌜ r ≡ cross edge to ⌝ }
+// The cross product. Document 01: the side number of a point against an edge is that of the edge's differences and
+// those from the edge's start to the point. Of the differences of two edges it is the number whose sign orders their
+// directions.
+pub fn cross(a: Vector, b: Vector) -> i64
+    requires { ⌜ Span reach a ⌝ }
+    requires { ⌜ Span reach b ⌝ }
+    ensures { λ r. ⌜ r ≡ cross a b ⌝ }
 {
-    edge.x * to.y - edge.y * to.x
+    a.x * b.y - a.y * b.x
 }
 
 pub fn dot(a: Vector, b: Vector) -> i64
@@ -72,6 +73,26 @@ pub fn squared_length(a: Vector) -> i64
     ensures { λ r. ⌜ r ≡ dot a a ⌝ }
 {
     dot(a, a)
+}
+
+// Whether v is strictly left of the line that starts at `from` and has the differences `run`.
+pub fn is_left(from: Corner, run: Vector, v: Corner) -> bool
+    requires { ⌜ Span reach run ⌝ }
+    requires { ⌜ InRange from ⌝ }
+    requires { ⌜ InRange v ⌝ }
+    ensures { λ r. ⌜ r ≡ isLeft from run v ⌝ }
+{
+    0 < cross(run, difference(from, v))
+}
+
+// Whether v is strictly right of that line.
+pub fn is_right(from: Corner, run: Vector, v: Corner) -> bool
+    requires { ⌜ Span reach run ⌝ }
+    requires { ⌜ InRange from ⌝ }
+    requires { ⌜ InRange v ⌝ }
+    ensures { λ r. ⌜ r ≡ isRight from run v ⌝ }
+{
+    cross(run, difference(from, v)) < 0
 }
 
 // The largest size of a coordinate.

@@ -12,7 +12,7 @@ pub fn natural(n: u64) {
 }
 
 // Writes a text.
-pub fn held(t: Text)
+pub fn write(t: Text)
     requires { ⌜ IsText t ⌝ }
 {
     let count = t.count;
@@ -21,5 +21,5 @@ pub fn held(t: Text)
 }
 
 pub fn signed(n: i64) {
-    held(Text::empty().signed(n));
+    write(Text::empty().signed(n));
 }

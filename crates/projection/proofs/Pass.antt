@@ -19,18 +19,19 @@ use lib.ListN.{length}
 use Rattle.integers.proofs.Order.{<ℤ-ltZ}
 use Rattle.plane.specs.declared.Corner.{Corner}
 use Rattle.plane.specs.Range.{InRange}
+use Rattle.plane.specs.Vector.{_⇀_, isRight}
 use Rattle.outline.specs.declared.Outline.{Outline}
 use Rattle.outline.specs.Convex.{Polygon, Accepted, IsOutline}
 use Rattle.outline.specs.Corners.{corner, next, previous, cornersOf}
-use Rattle.outline.proofs.Acceptance.{accepted-polygon}
+use Rattle.outline.proofs.EdgeLaws.{accepted-polygon}
 use Rattle.outline.proofs.CornersLaws.{before-below, after-below, previous-below, next-previous, previous-next}
 use Rattle.outline.proofs.HeldLaws.{cornersOf-corner}
 use Rattle.nearest.specs.declared.Feature.{Feature}
-use Rattle.nearest.specs.declared.Feature.the-variants.{Within, Corner as AtCorner, Edge as OnEdge}
+use Rattle.nearest.specs.declared.Feature.the-variants as Feature
 use Rattle.projection.specs.declared.local.Part.{Part}
 use Rattle.projection.specs.declared.local.Part.the-variants.{None, Start, Between, End}
 use Rattle.nearest.specs.Feature.{values, withinValues, cornerValues, edgeValues}
-use Rattle.nearest.specs.Local.{isRight, footIsBetween, cornerIsNearest, edgeIsNearest, isCorner, Tested, feature, nearest}
+use Rattle.nearest.specs.Local.{footIsBetween, cornerIsNearest, edgeIsNearest, isCorner, Tested, feature, nearest}
 use Rattle.projection.specs.Part.{nearestPart}
 use Rattle.nearest.proofs.AnswerLaws.{feature-tested, feature-iff}
 use Rattle.nearest.proofs.LocalLaws.{corner-visible}
@@ -44,16 +45,17 @@ module _ (v before p q after : Corner) where
     pub not-end : cornerIsNearest v p q after ≡ false
 
   abbrev pub Means : Part → Type 0
-  Means None = isRight v p q ≡ true → NoPart
+  Means None = isRight p (p ⇀ q) v ≡ true → NoPart
   Means Start = cornerIsNearest v before p q ≡ true
   Means Between = edgeIsNearest v p q ≡ true
   Means End = cornerIsNearest v p q after ≡ true
 
   pub part-means : Means (nearestPart v before p q after)
   part-means =
-      by-tests (isRight v p q) (footIsBetween v p q) (cornerIsNearest v before p q) (cornerIsNearest v p q after) refl refl refl refl
+      by-tests (isRight p (p ⇀ q) v) (footIsBetween v p q) (cornerIsNearest v before p q) (cornerIsNearest v p q after)
+      refl refl refl refl
     where
-      by-tests : (r b s e : Bool) → isRight v p q ≡ r → footIsBetween v p q ≡ b → cornerIsNearest v before p q ≡ s
+      by-tests : (r b s e : Bool) → isRight p (p ⇀ q) v ≡ r → footIsBetween v p q ≡ b → cornerIsNearest v before p q ≡ s
           → cornerIsNearest v p q after ≡ e → Means (cond r (cond b Between (cond s Start (cond e End None))) None)
       by-tests false b s e right between start end = λ holds. absurd (true≢false (sym holds ∙ right))
       by-tests true true s e right between start end = rw (right, between)
@@ -65,20 +67,20 @@ module _ (v before p q after : Corner) where
 module _ (cs : List Corner) (v : Corner) where
   -- no part of edge i is nearest
   abbrev NoPartAt : ℕ → Type 0
-  NoPartAt i = let n = length cs in
-      isRight v (corner cs i) (corner cs (next n i)) ≡ true
-      → NoPart v (corner cs (previous n i)) (corner cs i) (corner cs (next n i)) (corner cs (next n (next n i)))
+  NoPartAt i =
+      let n = length cs in let p = corner cs i in let q = corner cs (next n i) in
+      isRight p (p ⇀ q) v ≡ true → NoPart v (corner cs (previous n i)) p q (corner cs (next n (next n i)))
 
   -- a feature whose test holds is a part of an edge that v is strictly right of
-  none-found : Polygon cs → ((i : ℕ) → i < length cs → NoPartAt i) → (f : Feature) → Tested cs v f → f ≡ Within
-  none-found polygon none Within holds = refl
-  none-found polygon none (AtCorner i) (below, holds) = ⊎-elim
+  none-found : Polygon cs → ((i : ℕ) → i < length cs → NoPartAt i) → (f : Feature) → Tested cs v f → f ≡ Feature.Within
+  none-found polygon none Feature.Within holds = refl
+  none-found polygon none (Feature.Corner i) (below, holds) = ⊎-elim
       (λ out. absurd (true≢false (sym holds ∙ none i below out .not-start)))
       (λ into. let b = previous (length cs) i in
       let is = next-previous (length cs) i below in
       absurd (true≢false (sym holds ∙ (rw is at (none b (previous-below (length cs) i below))) into .not-end)))
       (corner-visible polygon v i below holds)
-  none-found polygon none (OnEdge i) (below, holds) =
+  none-found polygon none (Feature.Edge i) (below, holds) =
       let right = <ℤ-ltZ (edge-test v _ _ .0 holds .0) in
       absurd (true≢false (sym holds ∙ none i below right .not-between))
 
@@ -144,12 +146,14 @@ module _ {cs : List Corner} {i j : ℕ} {before p q after : Corner} (turn : Turn
     found f holds = ap (values cs v) (sym (feature-iff (accepted-polygon (turn .ok)) v f .1 holds))
 
     pub turn-start : part ≡ Start → cornerValues v i p ≡ nearest cs v
-    turn-start e = rw (turn .start-is) (found (AtCorner i) (turn .known, means Start e))
+    turn-start e = rw (turn .start-is) (found (Feature.Corner i) (turn .known, means Start e))
 
     pub turn-between : part ≡ Between → edgeValues v i p q ≡ nearest cs v
-    turn-between e = rw (turn .start-is, turn .end-is, turn .following) (found (OnEdge i) (turn .known, means Between e))
+    turn-between e =
+        rw (turn .start-is, turn .end-is, turn .following) (found (Feature.Edge i) (turn .known, means Between e))
 
     pub turn-end : part ≡ End → cornerValues v j q ≡ nearest cs v
     turn-end e =
         let holds : isCorner cs v (next (length cs) i) ≡ true = rw (previous-next (length cs) i (turn .known)) (means End e) in
-        rw (turn .end-is, turn .following) (found (AtCorner (next (length cs) i)) (rw (turn .following) at end-below, holds))
+        rw (turn .end-is, turn .following)
+        (found (Feature.Corner (next (length cs) i)) (rw (turn .following) at end-below, holds))

@@ -46,7 +46,7 @@ fn edge_gap(run: Vector, to: Vector) -> Fraction
     requires { ⌜ Span reach to ⌝ }
     ensures { λ r. ⌜ r ≡ edgeGap run to ⌝ }
 {
-    let side = plane::side(run, to);
+    let side = plane::cross(run, to);
     let length = plane::squared_length(run);
     Fraction {
         upper: (side * side) as u64,

@@ -2,7 +2,7 @@
 use plane::Corner;
 ghost use mathlib.Core.Path.{_≡_};
 ghost use Rattle.plane.specs.Range.{InRange};
-ghost use Rattle.nearest.specs.Local.{isRight, footIsBetween, cornerIsNearest};
+ghost use Rattle.nearest.specs.Local.{footIsBetween, cornerIsNearest};
 ghost use Rattle.projection.specs.Part.{nearestPart};
 
 // A part of an edge: none, its start, strictly between its ends, its end.
@@ -11,16 +11,6 @@ pub enum Part {
     Start,
     Between,
     End,
-}
-
-// Whether v is strictly right of the edge from p to q.
-fn is_right(v: Corner, p: Corner, q: Corner) -> bool
-    requires { ⌜ InRange v ⌝ }
-    requires { ⌜ InRange p ⌝ }
-    requires { ⌜ InRange q ⌝ }
-    ensures { λ r. ⌜ r ≡ isRight v p q ⌝ }
-{
-    plane::side(plane::difference(p, q), plane::difference(p, v)) < 0
 }
 
 // Whether the foot of v on the line from p to q lies strictly between them.
@@ -66,7 +56,7 @@ pub fn nearest_part(v: Corner, before: Corner, p: Corner, q: Corner, after: Corn
     requires { ⌜ InRange after ⌝ }
     ensures { λ r. ⌜ r ≡ nearestPart v before p q after ⌝ }
 {
-    if !is_right(v, p, q) {
+    if !plane::is_right(p, plane::difference(p, q), v) {
         return Part::None;
     }
     if foot_is_between(v, p, q) {

@@ -3,7 +3,9 @@
 --     compare-right, nearest-right    it has the right length, and this is answered
 -- Where the code is not that of an answer, no list was written:
 --     NotAnswered, compare-kept, nearest-kept, removal-kept
-use Prim.Native.Nat.{ℕ}
+-- The code of a refusal is neither that of an answer nor that of a wrong length:
+--     CodeApart, compare-code, nearest-code, removal-code
+use Prim.Native.Nat.{ℕ, _<_}
 use mathlib.Core.Path.{_≡_, refl}
 use mathlib.Core.Bool.{Bool, true, false, cond}
 use mathlib.Core.Logic.{_≢_}
@@ -12,20 +14,24 @@ use borrow.Author.Tests.{eq-eqb, ne-eqb}
 use lib.Dec.{eqb}
 use lib.IntN.{ℤ}
 use lib.ListN.{length}
-use Rattle.outline.specs.declared.Check.{Check}
-use Rattle.outline.specs.declared.Check.the-variants.{Passed, Failed}
-use Rattle.outline.specs.declared.RefusedSide.the-variants.{NoSide}
-use Rattle.outline.specs.Checks.{ifPassed}
-use Rattle.outline.specs.Refusal.{verdict}
-use Rattle.edit.specs.Removal.{removal, listAfter}
+use Rattle.plane.specs.declared.Corner.{Corner}
+use Rattle.outline.specs.declared.Refusal.{Refusal}
+use Rattle.outline.specs.declared.Verdict.{Verdict}
+use Rattle.outline.specs.declared.Verdict.the-variants as Verdict
+use Rattle.outline.specs.Checks.{ifTaken}
+use Rattle.edit.specs.Removal.{removalConditions, removalVerdict, listAfter}
+use Rattle.edit.proofs.Removal.{removal-refused}
 use Rattle.nearest.specs.declared.NearestAnswer.{NearestAnswer}
-use Rattle.nearest.specs.declared.NearestAnswer.the-variants.{Found, Refused as NotFound}
-use Rattle.nearest.specs.Call.{nearestAnswer}
+use Rattle.nearest.specs.declared.NearestAnswer.the-variants as NearestAnswer
+use Rattle.nearest.specs.Call.{nearestConditions, nearestAnswer}
+use Rattle.nearest.proofs.CallLaws.{nearest-refuses}
 use Rattle.hausdorff.specs.declared.Comparison.{Comparison}
-use Rattle.hausdorff.specs.declared.Comparison.the-variants.{Refused, Spent, Done}
-use Rattle.hausdorff.specs.Call.{comparison}
+use Rattle.hausdorff.specs.declared.Comparison.the-variants.{Refused, Reported}
+use Rattle.hausdorff.specs.Call.{pairConditions, comparison}
+use Rattle.hausdorff.proofs.CallLaws.{compare-refuses}
 use Rattle.encoding.specs.declared.status.Status.{Status}
-use Rattle.encoding.specs.Status.{answered, wrongResultLength}
+use Rattle.encoding.specs.Status.{answered, wrongResultLength, refusedStatus}
+use Rattle.encoding.proofs.StatusLaws.{refused-code}
 use Rattle.ravinebowl.specs.Calls.{compareLength, statusOfComparison, listOfComparison, compareStatus, compareList}
 use Rattle.ravinebowl.specs.Calls.{nearestLength, statusOfNearest, listOfNearest, nearestStatus, nearestList, statusOfVerdict, removalStatus}
 
@@ -56,8 +62,7 @@ module _ (s t : List ℤ) (allowance : ℕ) (result : List ℤ) where
     where
       by-answer : (answer : Comparison) → NotAnswered (statusOfComparison answer) → listOfComparison answer result ≡ result
       by-answer (Refused r) not = refl
-      by-answer (Spent p) not = absurd (not refl)
-      by-answer (Done d) not = absurd (not refl)
+      by-answer (Reported q) not = absurd (not refl)
 
 module _ (x y : ℤ) (s result : List ℤ) where
   pub nearest-wrong : length result ≢ nearestLength
@@ -75,12 +80,27 @@ module _ (x y : ℤ) (s result : List ℤ) where
   nearest-kept = kept-by-length _ (eqb (length result) nearestLength) (by-answer (nearestAnswer (record { x = x; y = y }) s))
     where
       by-answer : (answer : NearestAnswer) → NotAnswered (statusOfNearest answer) → listOfNearest answer result ≡ result
-      by-answer (NotFound r) not = refl
-      by-answer (Found a) not = absurd (not refl)
+      by-answer (NearestAnswer.Refused r) not = refl
+      by-answer (NearestAnswer.Found a) not = absurd (not refl)
 
 pub removal-kept : (s : List ℤ) (k : ℕ) (out : List ℤ) → NotAnswered (removalStatus s k out) → listAfter s k out ≡ out
-removal-kept s k out = by-check (removal s k (length out)) _
+removal-kept s k out = by-verdict (removalVerdict s k out) _
   where
-    by-check : (c : Check) (remains : List ℤ) → NotAnswered (statusOfVerdict (verdict NoSide c)) → ifPassed c remains out ≡ out
-    by-check Passed remains not = absurd (not refl)
-    by-check (Failed f) remains not = refl
+    by-verdict : (v : Verdict) (remains : List ℤ) → NotAnswered (statusOfVerdict v) → ifTaken v remains out ≡ out
+    by-verdict Verdict.Taken remains not = absurd (not refl)
+    by-verdict (Verdict.Refused r) remains not = refl
+
+-- a refusal's code is neither that of an answer nor that of a wrong length
+abbrev pub CodeApart : Refusal → Type 0
+CodeApart r = (answered .code < refusedStatus r .code) × (refusedStatus r .code < wrongResultLength .code)
+
+pub compare-code : (s t : List ℤ) (allowance : ℕ) (r : Refusal) → comparison s t allowance ≡ Refused r → CodeApart r
+compare-code s t allowance r is = refused-code (pairConditions s t) r refl (compare-refuses s t allowance r .0 is)
+
+pub nearest-code : (v : Corner) (s : List ℤ) (r : Refusal) → nearestAnswer v s ≡ NearestAnswer.Refused r → CodeApart r
+nearest-code v s r is = refused-code (nearestConditions v s) r refl (nearest-refuses v s r .0 is)
+
+pub removal-code : (s : List ℤ) (k : ℕ) (out : List ℤ) (r : Refusal) → removalVerdict s k out ≡ Verdict.Refused r
+    → CodeApart r
+removal-code s k out r is =
+    refused-code (removalConditions s k (length out)) r refl (removal-refused s k (length out) r .0 is)

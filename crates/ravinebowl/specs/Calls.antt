@@ -13,17 +13,17 @@ use lib.Dec.{eqb}
 use lib.IntN.{ℤ}
 use lib.ListN.{length}
 use Rattle.outline.specs.declared.Verdict.{Verdict}
-use Rattle.outline.specs.declared.Verdict.the-variants.{Taken, Refused as NotTaken}
+use Rattle.outline.specs.declared.Verdict.the-variants as Verdict
 use Rattle.edit.specs.Removal.{removalVerdict}
 use Rattle.nearest.specs.declared.NearestAnswer.{NearestAnswer}
-use Rattle.nearest.specs.declared.NearestAnswer.the-variants.{Found, Refused as NotFound}
+use Rattle.nearest.specs.declared.NearestAnswer.the-variants as NearestAnswer
 use Rattle.nearest.specs.Call.{nearestAnswer}
 use Rattle.hausdorff.specs.declared.Comparison.{Comparison}
-use Rattle.hausdorff.specs.declared.Comparison.the-variants.{Refused, Spent, Done}
+use Rattle.hausdorff.specs.declared.Comparison.the-variants.{Refused, Reported}
 use Rattle.hausdorff.specs.Call.{comparison}
 use Rattle.encoding.specs.declared.status.Status.{Status}
 use Rattle.encoding.specs.Status.{answered, wrongResultLength, refusedStatus}
-use Rattle.encoding.specs.Results.{ofNearest, ofDone, ofSpent}
+use Rattle.encoding.specs.Results.{ofNearest, ofReport}
 
 abbrev pub nearestLength : ℕ
 nearestLength = 7
@@ -38,14 +38,12 @@ ifOfLength result long right wrong = cond (eqb (length result) long) right wrong
 -- being spent is no refusal
 abbrev pub statusOfComparison : Comparison → Status
 statusOfComparison (Refused r) = refusedStatus r
-statusOfComparison (Spent p) = answered
-statusOfComparison (Done d) = answered
+statusOfComparison (Reported q) = answered
 
 -- a refused call writes to no list
 abbrev pub listOfComparison : Comparison → List ℤ → List ℤ
 listOfComparison (Refused r) before = before
-listOfComparison (Spent p) before = ofSpent p
-listOfComparison (Done d) before = ofDone d
+listOfComparison (Reported q) before = ofReport q
 
 unfoldable pub compareStatus : List ℤ → List ℤ → ℕ → List ℤ → Status
 compareStatus s t allowance result = ifOfLength result compareLength (statusOfComparison (comparison s t allowance)) wrongResultLength
@@ -54,12 +52,12 @@ unfoldable pub compareList : List ℤ → List ℤ → ℕ → List ℤ → List
 compareList s t allowance result = ifOfLength result compareLength (listOfComparison (comparison s t allowance) result) result
 
 abbrev pub statusOfNearest : NearestAnswer → Status
-statusOfNearest (NotFound r) = refusedStatus r
-statusOfNearest (Found a) = answered
+statusOfNearest (NearestAnswer.Refused r) = refusedStatus r
+statusOfNearest (NearestAnswer.Found a) = answered
 
 abbrev pub listOfNearest : NearestAnswer → List ℤ → List ℤ
-listOfNearest (NotFound r) before = before
-listOfNearest (Found a) before = ofNearest a
+listOfNearest (NearestAnswer.Refused r) before = before
+listOfNearest (NearestAnswer.Found a) before = ofNearest a
 
 unfoldable pub nearestStatus : ℤ → ℤ → List ℤ → List ℤ → Status
 nearestStatus x y s result = ifOfLength result nearestLength (statusOfNearest (nearestAnswer (record { x = x; y = y }) s)) wrongResultLength
@@ -68,8 +66,8 @@ unfoldable pub nearestList : ℤ → ℤ → List ℤ → List ℤ → List ℤ
 nearestList x y s result = ifOfLength result nearestLength (listOfNearest (nearestAnswer (record { x = x; y = y }) s) result) result
 
 abbrev pub statusOfVerdict : Verdict → Status
-statusOfVerdict Taken = answered
-statusOfVerdict (NotTaken r) = refusedStatus r
+statusOfVerdict Verdict.Taken = answered
+statusOfVerdict (Verdict.Refused r) = refusedStatus r
 
 abbrev pub removalStatus : List ℤ → ℕ → List ℤ → Status
 removalStatus s k out = statusOfVerdict (removalVerdict s k out)

@@ -43,12 +43,8 @@ pub extern "C" fn ravinebowl_compare(
     }
     match calls::compare(a, b, allowance) {
         Comparison::Refused(refusal) => status::refused(refusal),
-        Comparison::Spent(spent) => {
-            write(&results::of_spent(spent), result);
-            status::answered()
-        }
-        Comparison::Done(done) => {
-            write(&results::of_done(done), result);
+        Comparison::Reported(report) => {
+            write(&results::of_report(report), result);
             status::answered()
         }
     }

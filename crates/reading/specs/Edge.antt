@@ -1,18 +1,16 @@
 -- An edge, taken out of a list of corners once for all corners that are tested against it.
 --     edgeOf         the edge with a number
 --     isNotLeftOf    corner c, at v, is no end of the edge and not strictly left of it
--- For the code alone: `isNotLeft` in `outline/specs/Reading.antt` says the same of a list and two numbers, in document 01's words.
+-- For the code alone: `isNotLeft` in `outline/specs/Reading.antt` is the same test of a list and two numbers.
 use Prim.Native.Nat.{ℕ}
 use mathlib.Core.Bool.{Bool, not, _&&_}
 use mathlib.Core.List.{List}
 use lib.Dec.{eqb}
-use lib.IntN.{pos}
 use lib.ListN.{length}
-use lib.Signed.{leZ}
 use Rattle.plane.specs.declared.Corner.{Corner}
-use Rattle.plane.specs.Vector.{_⇀_, cross}
+use Rattle.plane.specs.Vector.{isLeft}
 use Rattle.reading.specs.declared.checks.Edge.{Edge}
-use Rattle.outline.specs.Corners.{corner, next}
+use Rattle.outline.specs.Corners.{corner, next, edge}
 
 -- document 01: edge e runs from corner e to the following one
 abbrev pub edgeOf : List Corner → ℕ → Edge
@@ -20,12 +18,11 @@ edgeOf cs e = record {
   start = e;
   end = next (length cs) e;
   from = corner cs e;
-  run = corner cs e ⇀ corner cs (next (length cs) e);
+  run = edge cs e;
 }
 
--- with the side number of v against the edge
 abbrev pub isNotLeftOf : Edge → ℕ → Corner → Bool
 isNotLeftOf edge c v =
     not (eqb c (edge .start))
     && not (eqb c (edge .end))
-    && leZ (cross (edge .run) (edge .from ⇀ v)) (pos 0)
+    && not (isLeft (edge .from) (edge .run) v)

@@ -1,69 +1,102 @@
-// The checks of a list, in document 01's order. Each says which corner or edge fails it first.
+// The checks of a list, in document 01's order. Each names the corner or edge that fails it first; `whose` is the side
+// that a refusal names.
 use crate::corners::corner;
 use crate::corners::count;
 use crate::corners::next;
-use outline::Check;
+use crate::refusals::refuse;
 use outline::FEWEST;
-use outline::Fault;
 use outline::MOST;
+use outline::Place;
+use outline::RefusedSide;
+use outline::Verdict;
 use plane::Corner;
 use plane::Vector;
 ghost use mathlib.Core.Path.{_≡_};
 ghost use Prim.Native.Nat.{_<_};
 ghost use lib.ListN.{length};
 ghost use Rattle.plane.specs.Range.{InRange, Span, reach};
-ghost use Rattle.outline.specs.Checks.{_orElse_};
+ghost use Rattle.outline.specs.Checks.{first};
 ghost use Rattle.outline.specs.Convex.{AllInRange};
 ghost use Rattle.outline.specs.Corners.{corners};
 ghost use Rattle.reading.specs.Edge.{edgeOf, isNotLeftOf};
-ghost use Rattle.outline.specs.Turns.{isLeft, keepsLeft, isConvex};
-ghost use Rattle.outline.specs.Reading.{oddLength, tooFew, tooMany, outOfRange, repeated, notLeftOf, notLeft, check};
+ghost use Rattle.outline.specs.Turns.{keepsLeft, isConvex};
+ghost use Rattle.outline.specs.Reading.{isOutOfRange, isRepeated};
+ghost use Rattle.outline.specs.Reading.{lengthChecks, checkRange, checkRepeated, checkEdge, checkConvex, check};
+
+// The numbers of the refusals.
+const ODD_LENGTH: u32 = 1;
+
+pub const TOO_FEW: u32 = 2;
+
+const TOO_MANY: u32 = 3;
+
+const OUT_OF_RANGE: u32 = 4;
+
+const REPEATED: u32 = 5;
+
+const NOT_LEFT: u32 = 6;
 
 // 1, 2 and 3: the length of the list.
-fn check_count(s: &[i32]) -> Check
-    ensures { λ r. ⌜ r ≡ oddLength (now (s .entry)) orElse tooFew (corners (now (s .entry))) orElse tooMany (corners (now (s .entry))) ⌝ }
+fn check_length(s: &[i32], whose: RefusedSide) -> Verdict
+    ensures { λ r. ⌜ r ≡ first (lengthChecks whose (now (s .entry))) ⌝ }
 {
     if s.len() % 2 == 1 {
-        return Check::Failed(Fault::OddLength);
+        return refuse(ODD_LENGTH, whose, Place::Nowhere);
     }
     let n = count(s);
     if n < FEWEST {
-        return Check::Failed(Fault::TooFewCorners);
+        return refuse(TOO_FEW, whose, Place::Nowhere);
     }
     if MOST < n {
-        return Check::Failed(Fault::TooManyCorners);
+        return refuse(TOO_MANY, whose, Place::Nowhere);
     }
-    Check::Passed
+    Verdict::Taken
+}
+
+// Whether corner i is out of range.
+fn is_out_of_range(s: &[i32], i: usize) -> bool
+    requires { ⌜ i < length (corners (now s)) ⌝ }
+    ensures { λ r. ⌜ r ≡ isOutOfRange (corners (now (s .entry))) i ⌝ }
+{
+    !plane::in_range(corner(s, i))
 }
 
 // 4: the first corner that is out of range.
-fn check_range(s: &[i32]) -> Check
-    ensures { λ r. ⌜ r ≡ outOfRange (corners (now (s .entry))) ⌝ }
+fn check_range(s: &[i32], whose: RefusedSide) -> Verdict
+    ensures { λ r. ⌜ r ≡ checkRange whose (corners (now (s .entry))) ⌝ }
 {
     let n = count(s);
     let mut i = 0;
     while i < n {
-        if !plane::in_range(corner(s, i)) {
-            return Check::Failed(Fault::OutOfRange(i));
+        if is_out_of_range(s, i) {
+            return refuse(OUT_OF_RANGE, whose, Place::At(i));
         }
         i += 1;
     }
-    Check::Passed
+    Verdict::Taken
+}
+
+// Whether corner i is equal to the following one.
+fn is_repeated(s: &[i32], i: usize) -> bool
+    requires { ⌜ i < length (corners (now s)) ⌝ }
+    ensures { λ r. ⌜ r ≡ isRepeated (corners (now (s .entry))) i ⌝ }
+{
+    plane::same(corner(s, i), corner(s, next(count(s), i)))
 }
 
 // 5: the first corner that is equal to the following one.
-fn check_repeated(s: &[i32]) -> Check
-    ensures { λ r. ⌜ r ≡ repeated (corners (now (s .entry))) ⌝ }
+fn check_repeated(s: &[i32], whose: RefusedSide) -> Verdict
+    ensures { λ r. ⌜ r ≡ checkRepeated whose (corners (now (s .entry))) ⌝ }
 {
     let n = count(s);
     let mut i = 0;
     while i < n {
-        if plane::same(corner(s, i), corner(s, next(n, i))) {
-            return Check::Failed(Fault::Repeated(i));
+        if is_repeated(s, i) {
+            return refuse(REPEATED, whose, Place::At(i));
         }
         i += 1;
     }
-    Check::Passed
+    Verdict::Taken
 }
 
 // An edge, taken out of the list: the numbers of its ends, the corner that it runs from, and its differences.
@@ -102,51 +135,41 @@ fn is_not_left(edge: Edge, c: usize, v: Corner) -> bool
     if c == edge.end {
         return false;
     }
-    plane::side(edge.run, plane::difference(edge.from, v)) <= 0
+    !plane::is_left(edge.from, edge.run, v)
 }
 
 // 6, for edge e alone: the first corner that is not strictly left of it.
-fn check_edge(s: &[i32], e: usize) -> Check
+fn check_edge(s: &[i32], whose: RefusedSide, e: usize) -> Verdict
     requires { ⌜ e < length (corners (now s)) ⌝ }
     requires { ⌜ AllInRange (corners (now s)) ⌝ }
-    ensures { λ r. ⌜ r ≡ notLeftOf (corners (now (s .entry))) e ⌝ }
+    ensures { λ r. ⌜ r ≡ checkEdge whose (corners (now (s .entry))) e ⌝ }
 {
     let n = count(s);
     let edge = take_edge(s, e);
     let mut c = 0;
     while c < n {
         if is_not_left(edge, c, corner(s, c)) {
-            return Check::Failed(Fault::NotLeft(e, c));
+            return refuse(NOT_LEFT, whose, Place::EdgeAndCorner(e, c));
         }
         c += 1;
     }
-    Check::Passed
+    Verdict::Taken
 }
 
 // 6, by testing every corner against every edge.
-fn find_not_left(s: &[i32]) -> Check
+fn check_edges(s: &[i32], whose: RefusedSide) -> Verdict
     requires { ⌜ AllInRange (corners (now s)) ⌝ }
-    ensures { λ r. ⌜ r ≡ notLeft (corners (now (s .entry))) ⌝ }
+    ensures { λ r. ⌜ r ≡ checkConvex whose (corners (now (s .entry))) ⌝ }
 {
     let n = count(s);
     let mut e = 0;
     while e < n {
-        if let Check::Failed(f) = check_edge(s, e) {
-            return Check::Failed(f);
+        if let Verdict::Refused(refusal) = check_edge(s, whose, e) {
+            return Verdict::Refused(refusal);
         }
         e += 1;
     }
-    Check::Passed
-}
-
-// Whether v is strictly left of the line that starts at `from` and has the differences `run`.
-fn is_left(from: Corner, run: Vector, v: Corner) -> bool
-    requires { ⌜ Span reach run ⌝ }
-    requires { ⌜ InRange from ⌝ }
-    requires { ⌜ InRange v ⌝ }
-    ensures { λ r. ⌜ r ≡ isLeft from run v ⌝ }
-{
-    0 < plane::side(run, plane::difference(from, v))
+    Verdict::Taken
 }
 
 // Whether v, the corner after p and q, is strictly left of edge 0, which starts at `from`, of the line from there to q, and of p to q.
@@ -158,23 +181,24 @@ fn keeps_left(from: Corner, run: Vector, p: Corner, q: Corner, v: Corner) -> boo
     requires { ⌜ InRange v ⌝ }
     ensures { λ r. ⌜ r ≡ keepsLeft from run p q v ⌝ }
 {
-    if !is_left(from, run, v) {
+    if !plane::is_left(from, run, v) {
         return false;
     }
-    if !is_left(from, plane::difference(from, q), v) {
+    if !plane::is_left(from, plane::difference(from, q), v) {
         return false;
     }
-    is_left(p, plane::difference(p, q), v)
+    plane::is_left(p, plane::difference(p, q), v)
 }
 
-// Whether the corners are strictly convex, in one pass: `check_convex` takes linear time where they are, and every accepted outline is.
-// It is right because any three corners, in number order, turn left where each corner keeps left (`outline/proofs/TurnsLaws.antt`).
+// Whether the corners are strictly convex, in one pass: `check_convex` takes linear time where they are, and every
+// accepted outline is. Without an edge 0 there is nothing to test. It is right because any three corners, in number
+// order, turn left where each corner keeps left (`outline/proofs/TurnsLaws.antt`).
 fn is_convex(s: &[i32]) -> bool
     requires { ⌜ AllInRange (corners (now s)) ⌝ }
     ensures { λ r. ⌜ r ≡ isConvex (corners (now (s .entry))) ⌝ }
 {
     let n = count(s);
-    if n < FEWEST {
+    if n < 2 {
         return true;
     }
     let from = corner(s, 0);
@@ -190,29 +214,29 @@ fn is_convex(s: &[i32]) -> bool
 }
 
 // 6: the first edge that some corner is not strictly left of, and the first such corner.
-fn check_convex(s: &[i32]) -> Check
+fn check_convex(s: &[i32], whose: RefusedSide) -> Verdict
     requires { ⌜ AllInRange (corners (now s)) ⌝ }
-    ensures { λ r. ⌜ r ≡ notLeft (corners (now (s .entry))) ⌝ }
+    ensures { λ r. ⌜ r ≡ checkConvex whose (corners (now (s .entry))) ⌝ }
 {
     if is_convex(s) {
-        Check::Passed
+        Verdict::Taken
     } else {
-        find_not_left(s)
+        check_edges(s, whose)
     }
 }
 
-// All checks of a list: what the first that fails finds.
-pub fn check(s: &[i32]) -> Check
-    ensures { λ r. ⌜ r ≡ check (now (s .entry)) ⌝ }
+// All checks of a list: what the first that refuses answers.
+pub fn check(s: &[i32], whose: RefusedSide) -> Verdict
+    ensures { λ r. ⌜ r ≡ check whose (now (s .entry)) ⌝ }
 {
-    if let Check::Failed(f) = check_count(s) {
-        return Check::Failed(f);
+    if let Verdict::Refused(refusal) = check_length(s, whose) {
+        return Verdict::Refused(refusal);
     }
-    if let Check::Failed(f) = check_range(s) {
-        return Check::Failed(f);
+    if let Verdict::Refused(refusal) = check_range(s, whose) {
+        return Verdict::Refused(refusal);
     }
-    if let Check::Failed(f) = check_repeated(s) {
-        return Check::Failed(f);
+    if let Verdict::Refused(refusal) = check_repeated(s, whose) {
+        return Verdict::Refused(refusal);
     }
-    check_convex(s)
+    check_convex(s, whose)
 }

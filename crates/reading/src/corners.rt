@@ -42,7 +42,7 @@ pub fn previous(n: usize, i: usize) -> usize
 }
 
 // The outline with the corners of a list.
-pub fn hold(s: &[i32]) -> Outline
+pub fn held(s: &[i32]) -> Outline
     requires { ⌜ length (corners (now s)) ≤ most ⌝ }
     ensures { λ r. ⌜ r ≡ held (corners (now (s .entry))) ⌝ }
 {

@@ -3,7 +3,6 @@ pub mod checks;
 pub mod corners;
 pub mod refusals;
 
-use outline::Check;
 use outline::Reading;
 use outline::RefusedSide;
 use outline::Verdict;
@@ -14,14 +13,14 @@ ghost use Rattle.outline.specs.Reading.{reading};
 pub fn read(s: &[i32], whose: RefusedSide) -> Reading
     ensures { λ r. ⌜ r ≡ reading whose (now (s .entry)) ⌝ }
 {
-    match checks::check(s) {
-        Check::Passed => Reading {
+    match checks::check(s, whose) {
+        Verdict::Taken => Reading {
             verdict: Verdict::Taken,
-            outline: corners::hold(s),
+            outline: corners::held(s),
         },
-        Check::Failed(f) => Reading {
-            verdict: Verdict::Refused(refusals::refusal(whose, f)),
-            outline: corners::hold(&[]),
+        Verdict::Refused(refusal) => Reading {
+            verdict: Verdict::Refused(refusal),
+            outline: corners::held(&[]),
         },
     }
 }

@@ -26,7 +26,7 @@ use Rattle.outline.specs.Convex.{Polygon}
 use Rattle.outline.specs.Corners.{corner, next, cornersOf}
 use Rattle.outline.proofs.CornersLaws.{next-next-other}
 use Rattle.outline.proofs.HeldLaws.{cornersOf-corner}
-use Rattle.hausdorff.specs.declared.Side.{Side}
+use Rattle.outline.specs.declared.Side.{Side}
 use Rattle.hausdorff.specs.declared.WorstSoFar.the-variants.{None}
 use Rattle.hausdorff.specs.Pair.{Pair, Polygons}
 use Rattle.hausdorff.specs.Sweep.{begin, steps}

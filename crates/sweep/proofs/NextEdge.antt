@@ -28,14 +28,14 @@ use Rattle.plane.specs.Vector.{cross, dot}
 use Rattle.plane.proofs.Algebra.{O, vec, crossE, dotE, components, cross-back}
 use Rattle.plane.proofs.Halves.{NonZero}
 use Rattle.plane.proofs.DirectionLaws.{Before, Along, Apart, along?, along-iff, before-asym, before-irrefl, cross-between, cross-first}
-use Rattle.outline.specs.Corners.{previous}
+use Rattle.outline.specs.Corners.{previous, edge}
 use Rattle.outline.proofs.CornersLaws.{next-other, previous-below, next-previous}
-use Rattle.nearest.specs.Piece.{edge}
 use Rattle.nearest.proofs.Support.{turns-on}
-use Rattle.hausdorff.specs.declared.Side.{Side}
-use Rattle.hausdorff.specs.declared.Side.the-variants.{A, B}
+use Rattle.outline.specs.declared.Side.{Side}
+use Rattle.outline.specs.declared.Side.the-variants.{A, B}
 use Rattle.hausdorff.specs.Pair.{Pair, Polygons, sameSide, edgeCount, stepCount}
-use Rattle.hausdorff.specs.AngularOrder.{PairEdge, direction, edgesBelow, angularOrder, consIf, own, headOr}
+use Rattle.lists.specs.Lists.{headOr}
+use Rattle.hausdorff.specs.AngularOrder.{PairEdge, direction, edgesBelow, angularOrder, consIf, own}
 use Rattle.hausdorff.specs.Sweep.{begin, after}
 use Rattle.hausdorff.proofs.OrderLaws.{Rounds, polygons-go-round, order-arranges, order-length, order-members}
 use Rattle.hausdorff.proofs.OrderLaws.{order-not-falling, order-ties, own-iff, own-append, own-members, own-rising}

@@ -1,5 +1,5 @@
 -- The parts of a step, put together, are a step of document 01's sweep.
---     Finds                what `measuring::find` answers for a corner
+--     IsLocalFeature       what `measuring::local_feature` answers for a corner
 --     after-bounded        the state after k steps is bounded
 --     step-measurable, step-bounded, step-passable    what the parts ask holds where a step can be made
 --     measured-passable    and also once it has measured
@@ -15,22 +15,22 @@ use lib.ListN.{length}
 use Rattle.plane.specs.declared.Corner.{Corner}
 use Rattle.outline.specs.Convex.{Polygon}
 use Rattle.outline.specs.Corners.{corner}
-use Rattle.outline.proofs.Acceptance.{accepted-polygon}
+use Rattle.outline.proofs.EdgeLaws.{accepted-polygon}
 use Rattle.outline.proofs.CornersLaws.{next-previous}
 use Rattle.nearest.specs.declared.Feature.{Feature}
-use Rattle.nearest.specs.declared.Feature.the-variants.{Within, Corner as AtCorner, Edge as OnEdge}
+use Rattle.nearest.specs.declared.Feature.the-variants as Feature
 use Rattle.nearest.specs.Feature.{values}
 use Rattle.nearest.specs.Local.{feature, nearest}
-use Rattle.hausdorff.specs.declared.Side.{Side}
-use Rattle.hausdorff.specs.declared.Side.the-variants.{A, B}
+use Rattle.outline.specs.declared.Side.{Side}
+use Rattle.outline.specs.declared.Side.the-variants.{A, B}
 use Rattle.hausdorff.specs.declared.WorstSoFar.{WorstSoFar}
-use Rattle.hausdorff.specs.declared.WorstSoFar.the-variants.{None as NoWorst, Worst}
+use Rattle.hausdorff.specs.declared.WorstSoFar.the-variants.{None, Worst}
 use Rattle.hausdorff.specs.Pair.{Pair, AcceptedPair, Polygons, other, sameSide, stepCount}
 use Rattle.hausdorff.specs.AngularOrder.{PairEdge}
 use Rattle.hausdorff.specs.Counting.{isCounted}
-use Rattle.hausdorff.specs.CornerGap.{named}
+use Rattle.hausdorff.specs.CornerGap.{withCorner}
 use Rattle.hausdorff.specs.Worst.{shownNumber, keep}
-use Rattle.hausdorff.specs.Sweep.{measured, passed as passedSupport, step, after}
+use Rattle.hausdorff.specs.Sweep.{measured, passedSupport, step, after}
 use Rattle.hausdorff.proofs.Extreme.{AtSupport}
 use Rattle.hausdorff.proofs.CountingLaws.{counted-iff}
 use Rattle.hausdorff.proofs.SweepLaws.{after-step}
@@ -38,11 +38,10 @@ use Rattle.hausdorff.proofs.WorstLaws.{support-known}
 use Rattle.sweep.specs.declared.SideState.{SideState}
 use Rattle.sweep.specs.declared.State.{State}
 use Rattle.measuring.specs.declared.Window.{Window}
-use Rattle.measuring.specs.declared.Near.{Near}
-use Rattle.measuring.specs.declared.Near.the-variants.{None, Corner as TheCorner, EdgeAfter, EdgeBefore}
-use Rattle.measuring.specs.declared.Near.the-variants.{CornerAfter, CornerBefore}
+use Rattle.measuring.specs.declared.LocalFeature.{LocalFeature}
+use Rattle.measuring.specs.declared.LocalFeature.the-variants as LocalFeature
 use Rattle.measuring.specs.Window.{windowAt, IsWindow}
-use Rattle.measuring.specs.Near.{featureOf, countedFeature, nearWorst}
+use Rattle.measuring.specs.LocalFeature.{featureOf, countedFeature, localWorst}
 use Rattle.sweep.specs.State.{sideState, toCome, IsAfter, CanStep, Measurable, BoundedState, Passable}
 use Rattle.sweep.specs.State.{advanced, passed, changesWorst, withWorst}
 use Rattle.measuring.proofs.GapSizes.{worst-bounded}
@@ -50,8 +49,8 @@ use Rattle.measuring.proofs.ChangesLaws.{keeps-old}
 use Rattle.sweep.proofs.NextEdge.{isNextB, nextSide, next-edge, next-to-come, step-to-come}
 
 -- v's nearest feature, if it counts in the outline that w is a window of
-abbrev pub Finds : Window → Window → Near → Type 0
-Finds v w f = (seen : IsWindow w) → featureOf w f ≡ countedFeature (seen .outline) (w .number) (v .corner)
+abbrev pub IsLocalFeature : Window → Window → LocalFeature → Type 0
+IsLocalFeature v w f = (seen : IsWindow w) → featureOf w f ≡ countedFeature (seen .outline) (w .number) (v .corner)
 
 -- What the sweep keeps is bounded.
 pub after-bounded : (pair : Pair) → AcceptedPair pair → (k : ℕ) {state : State} → IsAfter pair k state → BoundedState state
@@ -62,33 +61,36 @@ after-bounded pair accepted k is-after = let bounded = worst-bounded pair accept
 
 -- what measuring finds of corner i, at v: none where the feature is Within
 abbrev worstAt : Side → ℕ → List Corner → Corner → Feature → WorstSoFar
-worstAt s i cs v Within = NoWorst
-worstAt s i cs v (AtCorner j) = Worst (named s i (values cs v (AtCorner j)))
-worstAt s i cs v (OnEdge j) = Worst (named s i (values cs v (OnEdge j)))
+worstAt s i cs v Feature.Within = None
+worstAt s i cs v (Feature.Corner j) = Worst (withCorner s i (values cs v (Feature.Corner j)))
+worstAt s i cs v (Feature.Edge j) = Worst (withCorner s i (values cs v (Feature.Edge j)))
 
 module _ (s : Side) (i : ℕ) {cs : List Corner} (polygon : Polygon cs) (b : ℕ) (below : b < length cs) (v : Corner) where
   -- The window's corners are those of the feature; the edge before ends at the support corner.
-  near-worst : (f : Near) → nearWorst s i v (windowAt cs b) f ≡ worstAt s i cs v (featureOf (windowAt cs b) f)
-  near-worst None = refl
-  near-worst TheCorner = refl
-  near-worst EdgeAfter = refl
-  near-worst EdgeBefore = rw (next-previous (length cs) b below)
-  near-worst CornerAfter = refl
-  near-worst CornerBefore = refl
+  localWorst-worstAt : (f : LocalFeature)
+      → localWorst s i v (windowAt cs b) f ≡ worstAt s i cs v (featureOf (windowAt cs b) f)
+  localWorst-worstAt LocalFeature.NotCounted = refl
+  localWorst-worstAt LocalFeature.Corner = refl
+  localWorst-worstAt LocalFeature.EdgeAfter = refl
+  localWorst-worstAt LocalFeature.EdgeBefore = rw (next-previous (length cs) b below)
+  localWorst-worstAt LocalFeature.CornerAfter = refl
+  localWorst-worstAt LocalFeature.CornerBefore = refl
 
   -- A feature at the support corner is not Within.
-  support-worst : (g : Feature) → AtSupport (length cs) b g → worstAt s i cs v g ≡ Worst (named s i (values cs v g))
-  support-worst Within none = absurd none
-  support-worst (AtCorner j) near = refl
-  support-worst (OnEdge j) near = refl
+  support-worst : (g : Feature) → AtSupport (length cs) b g
+      → worstAt s i cs v g ≡ Worst (withCorner s i (values cs v g))
+  support-worst Feature.Within none = absurd none
+  support-worst (Feature.Corner j) near = refl
+  support-worst (Feature.Edge j) near = refl
 
   -- So what is found is v's gap if v counts, and else none.
-  counted-worst : (f : Near) → featureOf (windowAt cs b) f ≡ countedFeature cs b v
-      → nearWorst s i v (windowAt cs b) f ≡ cond (isCounted cs b v) (Worst (named s i (nearest cs v))) NoWorst
-  counted-worst f finds = near-worst f ∙ ap (worstAt s i cs v) finds ∙ go (isCounted cs b v) refl
+  counted-worst : (f : LocalFeature) → featureOf (windowAt cs b) f ≡ countedFeature cs b v
+      → localWorst s i v (windowAt cs b) f ≡ cond (isCounted cs b v) (Worst (withCorner s i (nearest cs v))) None
+  counted-worst f finds = localWorst-worstAt f ∙ ap (worstAt s i cs v) finds ∙ go (isCounted cs b v) refl
     where
       go : (t : Bool) → isCounted cs b v ≡ t
-          → worstAt s i cs v (cond t (feature cs v) Within) ≡ cond t (Worst (named s i (nearest cs v))) NoWorst
+          → worstAt s i cs v (cond t (feature cs v) Feature.Within)
+          ≡ cond t (Worst (withCorner s i (nearest cs v))) None
       go true counts = support-worst (feature cs v) (counted-iff polygon b below v .0 counts)
       go false not-counted = refl
 
@@ -150,13 +152,13 @@ module _ (pair : Pair) (k : ℕ) {a b : Window} (sees : (s : Side) → windowOf 
       (passed-either pair m (measuredSide pair k) equal (isNextB pair k) s)
 
 -- Neither side changes, so both keep their old worst.
-stays : (state : State) (a b : Window) (near-a near-b : Near) → changesWorst a b near-a near-b state ≡ false
-    → withWorst a b near-a near-b state ≡ state
-stays state a b near-a near-b same =
+stays : (state : State) (a b : Window) (local-a local-b : LocalFeature) → changesWorst a b local-a local-b state ≡ false
+    → withWorst a b local-a local-b state ≡ state
+stays state a b local-a local-b same =
     let (same-a, same-b) = or-eq-false-eq-eq-false-and-eq-false _ _ .0 same in
     rw (
-      keeps-old A (a .number) (a .corner) b near-a (state .a .worst) same-a,
-      keeps-old B (b .number) (b .corner) a near-b (state .b .worst) same-b,
+      keeps-old A (a .number) (a .corner) b local-a (state .a .worst) same-a,
+      keeps-old B (b .number) (b .corner) a local-b (state .b .worst) same-b,
     )
 
 module _ {state : State} {a b : Window} (can : CanStep state a b) where
@@ -202,11 +204,11 @@ module _ {state : State} {a b : Window} (can : CanStep state a b) where
       some remaining false above = omega arith
 
   -- What is found near the support corners is what the sweep measures.
-  measured-part : (s : Side) (f : Near) → Finds (windowOf a b s) (windowOf a b (other s)) f → record {
+  measured-part : (s : Side) (f : LocalFeature) → IsLocalFeature (windowOf a b s) (windowOf a b (other s)) f → record {
     support = sideState state s .support;
     remaining = sideState state s .remaining;
     worst = keep (λ i. i) (sideState state s .worst)
-        (nearWorst s (windowOf a b s .number) (windowOf a b s .corner) (windowOf a b (other s)) f);
+        (localWorst s (windowOf a b s .number) (windowOf a b s .corner) (windowOf a b (other s)) f);
   } ≡ measuredSide (can .pair) (can .steps) s
   unfolding seen measured
   measured-part s f finds =
@@ -214,8 +216,8 @@ module _ {state : State} {a b : Window} (can : CanStep state a b) where
       let found = counted-worst s (support s) (polygons o) (support o) (known o) v f (rw (sees s, sees o) at (finds (seen o))) in
       rw (can .is-after .support s, can .is-after .remaining s, can .is-after .worst s, sees s, sees o, found)
 
-  module _ (near-a near-b : Near) where
-    pub measured-passable : Passable (withWorst a b near-a near-b state) a b
+  module _ (local-a local-b : LocalFeature) where
+    pub measured-passable : Passable (withWorst a b local-a local-b state) a b
     measured-passable = record {
       measurable = step-passable .measurable;
       known-a = step-passable .known-a;
@@ -224,32 +226,33 @@ module _ {state : State} {a b : Window} (can : CanStep state a b) where
     }
 
     -- So both sides are measured.
-    measured-side : Finds a b near-a → Finds b a near-b → (s : Side)
-        → sideState (withWorst a b near-a near-b state) s ≡ measuredSide (can .pair) (can .steps) s
-    measured-side finds-a finds-b A = measured-part A near-a finds-a
-    measured-side finds-a finds-b B = measured-part B near-b finds-b
+    measured-side : IsLocalFeature a b local-a → IsLocalFeature b a local-b → (s : Side)
+        → sideState (withWorst a b local-a local-b state) s ≡ measuredSide (can .pair) (can .steps) s
+    measured-side finds-a finds-b A = measured-part A local-a finds-a
+    measured-side finds-a finds-b B = measured-part B local-b finds-b
 
     -- It is the sweep that has measured, and both pass the same edge.
-    pub step-after : Finds a b near-a → Finds b a near-b
-        → IsAfter (can .pair) (suc (can .steps)) (passed a b (withWorst a b near-a near-b state))
+    pub step-after : IsLocalFeature a b local-a → IsLocalFeature b a local-b
+        → IsAfter (can .pair) (suc (can .steps)) (passed a b (withWorst a b local-a local-b state))
     step-after finds-a finds-b = record {
       support = λ s. ap (λ (w : SideState). w .support) (side s);
       remaining = λ s. ap (λ (w : SideState). w .remaining) (side s);
       worst = λ s. ap (λ (w : SideState). w .worst) (side s);
     }
       where
-        side : (s : Side) → sideState (passed a b (withWorst a b near-a near-b state)) s ≡ record {
+        side : (s : Side) → sideState (passed a b (withWorst a b local-a local-b state)) s ≡ record {
           support = after (can .pair) (suc (can .steps)) .support s;
           remaining = toCome (can .pair) (suc (can .steps)) s;
           worst = after (can .pair) (suc (can .steps)) .worst s;
         }
         side s =
-            passed-next (can .pair) (can .steps) sees (withWorst a b near-a near-b state) (measured-side finds-a finds-b) s
+            passed-next (can .pair) (can .steps) sees (withWorst a b local-a local-b state)
+            (measured-side finds-a finds-b) s
             ∙ step-side (can .pair) polygons (can .steps) (can .more) s
 
     -- There the measured state is the state.
-    pub unchanged-after : Finds a b near-a → Finds b a near-b → changesWorst a b near-a near-b state ≡ false
-        → IsAfter (can .pair) (suc (can .steps)) (passed a b state)
+    pub unchanged-after : IsLocalFeature a b local-a → IsLocalFeature b a local-b
+        → changesWorst a b local-a local-b state ≡ false → IsAfter (can .pair) (suc (can .steps)) (passed a b state)
     unchanged-after finds-a finds-b same =
-        subst (λ (m : State). IsAfter (can .pair) (suc (can .steps)) (passed a b m)) (stays state a b near-a near-b same)
-        (step-after finds-a finds-b)
+        subst (λ (m : State). IsAfter (can .pair) (suc (can .steps)) (passed a b m))
+        (stays state a b local-a local-b same) (step-after finds-a finds-b)

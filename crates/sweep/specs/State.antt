@@ -23,8 +23,8 @@ use Rattle.integers.specs.Equal.{eqZ}
 use Rattle.plane.specs.declared.Corner.{Corner}
 use Rattle.plane.specs.Vector.{_⇀_, cross}
 use Rattle.outline.specs.Corners.{next}
-use Rattle.hausdorff.specs.declared.Side.{Side}
-use Rattle.hausdorff.specs.declared.Side.the-variants.{A, B}
+use Rattle.outline.specs.declared.Side.{Side}
+use Rattle.outline.specs.declared.Side.the-variants.{A, B}
 use Rattle.hausdorff.specs.declared.WorstSoFar.the-variants.{None}
 use Rattle.hausdorff.specs.Pair.{Pair, AcceptedPair, stepCount}
 use Rattle.hausdorff.specs.AngularOrder.{angularOrder, own}
@@ -33,9 +33,9 @@ use Rattle.hausdorff.specs.Worst.{keep}
 use Rattle.sweep.specs.declared.SideState.{SideState}
 use Rattle.sweep.specs.declared.State.{State}
 use Rattle.measuring.specs.declared.Window.{Window}
-use Rattle.measuring.specs.declared.Near.{Near}
+use Rattle.measuring.specs.declared.LocalFeature.{LocalFeature}
 use Rattle.measuring.specs.Window.{windowAt, IsWindow}
-use Rattle.measuring.specs.Near.{nearWorst}
+use Rattle.measuring.specs.LocalFeature.{localWorst}
 use Rattle.measuring.specs.Changes.{BoundedWorst, changes}
 
 abbrev pub sideState : State → Side → SideState
@@ -90,21 +90,22 @@ passed a b state =
     (record { a = state .a; b = advanced (b .count) (state .b) })
     (record { a = advanced (a .count) (state .a); b = state .b })
 
-abbrev pub changesWorst : Window → Window → Near → Near → State → Bool
-changesWorst a b near-a near-b state =
-    changes (a .number) (a .corner) b near-a (state .a .worst) || changes (b .number) (b .corner) a near-b (state .b .worst)
+abbrev pub changesWorst : Window → Window → LocalFeature → LocalFeature → State → Bool
+changesWorst a b local-a local-b state =
+    changes (a .number) (a .corner) b local-a (state .a .worst)
+    || changes (b .number) (b .corner) a local-b (state .b .worst)
 
-abbrev pub withWorst : Window → Window → Near → Near → State → State
-withWorst a b near-a near-b state = record {
+abbrev pub withWorst : Window → Window → LocalFeature → LocalFeature → State → State
+withWorst a b local-a local-b state = record {
   a = record {
     support = state .a .support;
     remaining = state .a .remaining;
-    worst = keep (λ (i : ℕ). i) (state .a .worst) (nearWorst A (a .number) (a .corner) b near-a);
+    worst = keep (λ (i : ℕ). i) (state .a .worst) (localWorst A (a .number) (a .corner) b local-a);
   };
   b = record {
     support = state .b .support;
     remaining = state .b .remaining;
-    worst = keep (λ (i : ℕ). i) (state .b .worst) (nearWorst B (b .number) (b .corner) a near-b);
+    worst = keep (λ (i : ℕ). i) (state .b .worst) (localWorst B (b .number) (b .corner) a local-b);
   };
 }
 

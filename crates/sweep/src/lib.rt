@@ -1,9 +1,9 @@
 // The sweep of two outlines: its state, a step, and where it begins. `hausdorff` defines what they are.
-use hausdorff::Side;
 use hausdorff::WorstSoFar;
-use measuring::Near;
+use measuring::LocalFeature;
 use measuring::Window;
 use outline::Outline;
+use outline::Side;
 use plane::Corner;
 use reading::corners::next;
 ghost use mathlib.Core.Path.{_≡_};
@@ -40,7 +40,7 @@ fn b_is_next(a: Window, b: Window, remaining_a: usize, remaining_b: usize) -> bo
     if remaining_b == 0 {
         return false;
     }
-    plane::side(
+    plane::cross(
         plane::difference(a.corner, a.after),
         plane::difference(b.corner, b.after),
     )
@@ -83,26 +83,32 @@ impl State {
 
     // Whether measuring changes the worst so far of a side. Mostly it does not; then a step changes a support corner and a count only, and
     // builds no worst so far anew.
-    fn changes(self, a: Window, b: Window, near_a: Near, near_b: Near) -> bool
+    fn changes_worst(
+        self,
+        a: Window,
+        b: Window,
+        local_a: LocalFeature,
+        local_b: LocalFeature,
+    ) -> bool
         requires { ⌜ Measurable a b ⌝ }
         requires { ⌜ BoundedState self ⌝ }
-        ensures { λ r. ⌜ r ≡ changesWorst a b «near_a» «near_b» self ⌝ }
+        ensures { λ r. ⌜ r ≡ changesWorst a b «local_a» «local_b» self ⌝ }
     {
         let side_a = self.a;
         let side_b = self.b;
         let worst_a = side_a.worst;
         let worst_b = side_b.worst;
-        if measuring::changes(a.number, a.corner, b, near_a, worst_a) {
+        if measuring::changes(a.number, a.corner, b, local_a, worst_a) {
             return true;
         }
-        measuring::changes(b.number, b.corner, a, near_b, worst_b)
+        measuring::changes(b.number, b.corner, a, local_b, worst_b)
     }
 
-    // Measures both ways.
-    fn measured(self, a: Window, b: Window, near_a: Near, near_b: Near) -> State
+    // Measures both ways: the state with the worst so far of each side.
+    fn with_worst(self, a: Window, b: Window, local_a: LocalFeature, local_b: LocalFeature) -> State
         requires { ⌜ Measurable a b ⌝ }
         requires { ⌜ BoundedState self ⌝ }
-        ensures { λ r. ⌜ r ≡ withWorst a b «near_a» «near_b» self ⌝ }
+        ensures { λ r. ⌜ r ≡ withWorst a b «local_a» «local_b» self ⌝ }
     {
         let side_a = self.a;
         let side_b = self.b;
@@ -112,12 +118,12 @@ impl State {
             a: SideState {
                 support: side_a.support,
                 remaining: side_a.remaining,
-                worst: measuring::measure(Side::A, a.number, a.corner, b, near_a, worst_a),
+                worst: measuring::keep(Side::A, a.number, a.corner, b, local_a, worst_a),
             },
             b: SideState {
                 support: side_b.support,
                 remaining: side_b.remaining,
-                worst: measuring::measure(Side::B, b.number, b.corner, a, near_b, worst_b),
+                worst: measuring::keep(Side::B, b.number, b.corner, a, local_b, worst_b),
             },
         }
     }
@@ -128,12 +134,12 @@ impl State {
         requires { ⌜ CanStep self a b ⌝ }
         ensures { λ r. ⌜ ((can : CanStep self a b) → IsAfter (can .pair) (suc (can .steps)) r) ⌝ }
     {
-        let near_a = measuring::find(a.corner, b);
-        let near_b = measuring::find(b.corner, a);
-        if !self.changes(a, b, near_a, near_b) {
+        let local_a = measuring::local_feature(a.corner, b);
+        let local_b = measuring::local_feature(b.corner, a);
+        if !self.changes_worst(a, b, local_a, local_b) {
             return self.passed(a, b);
         }
-        let measured = self.measured(a, b, near_a, near_b);
+        let measured = self.with_worst(a, b, local_a, local_b);
         measured.passed(a, b)
     }
 }
@@ -163,7 +169,7 @@ pub fn lowest(o: Outline) -> usize
 }
 
 // One side's part before step 1, where `lowest` is its outline's lowest, leftmost corner.
-pub fn begin(lowest: usize, count: usize) -> SideState
+pub fn beginning(lowest: usize, count: usize) -> SideState
     ensures { λ r. ⌜ r ≡ beginning lowest count ⌝ }
 {
     SideState {

@@ -6,9 +6,8 @@ use lib.ListN.{replicate}
 use Rattle.text.specs.declared.input.Parsed.the-variants.{Number, Invalid}
 use Rattle.text.specs.Ascii.{ascii}
 use Rattle.text.specs.Decimal.{digits, decimal, signedDecimal}
-use Rattle.text.specs.First.{Number as First, None, firstNumber}
-use Rattle.text.specs.Number.{allDigits, valueFrom, natural, number}
-use Rattle.text.specs.Output.{held, pushed, appended}
+use Rattle.text.specs.Number.{allDigits, valueFrom, natural, number, firstNumber}
+use Rattle.text.specs.Output.{textOf, pushed, appended}
 use Rattle.text.specs.Words.{wordsFrom, words}
 
 -- separators before the first word, after the last, and more than one between two
@@ -35,11 +34,11 @@ no-numbers : map number (ascii "123456" ∷ ascii "-" ∷ ascii "" ∷ ascii "1-
 unfolding number natural allDigits valueFrom
 no-numbers = refl
 
-first-number : firstNumber (words (ascii " 5 six")) ≡ First (pos 5) (ascii "six" ∷ [])
+first-number : firstNumber (words (ascii " 5 six")) ≡ Number (pos 5)
 unfolding wordsFrom number natural allDigits valueFrom
 first-number = refl
 
-first-no-number : firstNumber (words (ascii "six 5")) ≡ None
+first-no-number : firstNumber (words (ascii "six 5")) ≡ Invalid
 unfolding wordsFrom number natural allDigits valueFrom
 first-no-number = refl
 
@@ -53,6 +52,6 @@ negative : signedDecimal (negsuc 15999) ≡ ascii "-16000"
 unfolding digits
 negative = refl
 
-text-of-parts : appended (held (ascii "n = ")) (decimal 10) ≡ held (ascii "n = 10")
-unfolding held pushed appended digits
+text-of-parts : appended (textOf (ascii "n = ")) (decimal 10) ≡ textOf (ascii "n = 10")
+unfolding textOf pushed appended digits
 text-of-parts = refl

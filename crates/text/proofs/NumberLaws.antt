@@ -12,17 +12,18 @@ use Prim.Native.Nat.{ℕ, suc, _+_, _^_, _≤_, _<_}
 use mathlib.Core.Bool.{Bool, true, false, cond, _&&_, and-assoc}
 use mathlib.Core.Path.{_≡_, refl, sym}
 use mathlib.Core.List.{List, [], _∷_, _++_}
-use mathlib.Core.Logic.{_≢_, Iff·rfl}
+use mathlib.Core.Logic.{Iff·rfl}
 use native.Mathlib.Nat.{add-zero, pow-suc, pow-le-pow-right}
 use native.Mathlib.Numerals.{add-one}
 use native.Mathlib.Omega.{arith}
-use borrow.Author.Tests.{le-leb, lt-leb, lt-ltb, leb-true, ne-eqb}
-use lib.Dec.{leb, ltb}
+use borrow.Author.Tests.{le-leb, lt-leb, lt-ltb, leb-true}
+use lib.Dec.{leb, ltb, eqb}
+use lib.IntN.{pos}
 use lib.ListN.{length, getD, drop}
 use lib.Seq.{drop-cons}
 use Rattle.integers.proofs.Reflect.{test-and, test-leb}
-use Rattle.text.specs.declared.input.Digits.the-variants.{Value, Invalid as NoValue}
-use Rattle.text.specs.Number.{isDigit, allDigits, withDigit, valueFrom, value, natural, IsShort, signed, number}
+use Rattle.text.specs.declared.input.Parsed.the-variants.{Number, Invalid}
+use Rattle.text.specs.Number.{isDigit, allDigits, withDigit, valueFrom, value, natural, number, IsShort}
 
 pub digit-bounds : (b : ℕ) → isDigit b ≡ true → (48 ≤ b) × (b ≤ 57)
 digit-bounds b = test-and _ _ (test-leb 48 b) (test-leb b 57) .0
@@ -70,15 +71,15 @@ value-below (b ∷ w) n k below all =
     rw more (value-below w (withDigit n b) (suc k) (with-digit-below n b k below digit) rest)
 
 module _ (w : List ℕ) where
-  pub natural-empty : length w ≡ 0 → natural w ≡ NoValue
+  pub natural-empty : length w ≡ 0 → natural w ≡ Invalid
   unfolding natural
   natural-empty none = rw none
 
-  pub natural-long : 5 < length w → natural w ≡ NoValue
+  pub natural-long : 5 < length w → natural w ≡ Invalid
   unfolding natural
   natural-long long = rw (lt-ltb 0 (length w) (omega arith), lt-leb (length w) 5 long)
 
-  pub natural-is : 0 < length w → length w ≤ 5 → natural w ≡ cond (allDigits w) (Value (value w)) NoValue
+  pub natural-is : 0 < length w → length w ≤ 5 → natural w ≡ cond (allDigits w) (Number (pos (value w))) Invalid
   unfolding natural
   natural-is some short = rw (lt-ltb 0 (length w) some, le-leb (length w) 5 short)
 
@@ -88,16 +89,16 @@ unfolding natural
 natural-short w = by-length (ltb 0 (length w)) (leb (length w) 5) (allDigits w) refl refl
   where
     by-length : (some short all : Bool) → leb (length w) 5 ≡ short → allDigits w ≡ all
-        → IsShort (cond (some && short && all) (Value (value w)) NoValue)
+        → IsShort (cond (some && short && all) (Number (pos (value w))) Invalid)
     by-length false short all shorter digits = tt
     by-length true false all shorter digits = tt
     by-length true true false shorter digits = tt
     by-length true true true shorter digits =
         let least : 0 + length w ≤ 5 = omega (arith, leb-true (length w) 5 shorter) in
         let most : 10 ^ (0 + length w) ≤ 10 ^ 5 = pow-le-pow-right (omega arith) least in
-        omega (arith, value-below w 0 0 (omega arith) digits)
+        record { size = omega (arith, value-below w 0 0 (omega arith) digits) }
 
-pub number-unsigned : (w : List ℕ) → 0 < length w → getD w 0 0 ≢ 45 → number w ≡ signed false (natural w)
-unfolding number
-number-unsigned [] some other = absurd (omega arith)
-number-unsigned (b ∷ w) some other = rw (ne-eqb b 45 other)
+pub number-unsigned : (w : List ℕ) → eqb (getD w 0 0) 45 ≡ false → number w ≡ natural w
+unfolding natural number
+number-unsigned [] other = refl
+number-unsigned (b ∷ w) other = rw other

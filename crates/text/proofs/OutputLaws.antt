@@ -1,8 +1,8 @@
 -- Laws of a text that is made part by part.
 --     appended-append, joined    two lists are appended as one
 --     appended-nil, appended-snoc    no list; a list and a byte after it
---     appended-text, held-text    these are texts
---     held-appended      what is appended to a text that is held, and fits, is held after it
+--     appended-text, textOf-text    these are texts
+--     textOf-appended      a text of some bytes, to which others that fit are appended, is the text of both
 use Prim.Native.Nat.{ℕ, suc, _+_, _-_, _≤_, _<_}
 use mathlib.Core.Bool.{Bool, true, false, cond}
 use mathlib.Core.Path.{_≡_, refl, sym, _∙_}
@@ -13,7 +13,7 @@ use lib.Dec.{ltb}
 use lib.ListN.{length, replicate, set, length-append, length-replicate, length-set}
 use lib.Seq.{set-at}
 use Rattle.text.specs.declared.output.Text.{Text}
-use Rattle.text.specs.Output.{room, held, IsText, pushed, appended}
+use Rattle.text.specs.Output.{room, textOf, IsText, pushed, appended}
 
 pub appended-append : (t : Text) (r s : List ℕ) → appended (appended t r) s ≡ appended t (r ++ s)
 unfolding appended
@@ -46,23 +46,24 @@ unfolding appended
 appended-text t [] is = is
 appended-text t (b ∷ s) is = appended-text (pushed t b) s (pushed-text t b is)
 
-pub held-text : (s : List ℕ) → length s ≤ room → IsText (held s)
-unfolding held
-held-text s fits = record { fits = fits; places = simp (length-append, length-replicate) (omega arith) }
+pub textOf-text : (s : List ℕ) → length s ≤ room → IsText (textOf s)
+unfolding textOf
+textOf-text s fits = record { fits = fits; places = simp (length-append, length-replicate) (omega arith) }
 
 -- a place that is not used yet takes the next byte
 filled : (s : List ℕ) (b k : ℕ) → set (s ++ replicate (suc k) 0) (length s) b ≡ (s ++ (b ∷ [])) ++ replicate k 0
 filled s b k = set-at s 0 (replicate k 0) b (length s) refl ∙ sym (append-assoc s (b ∷ []) (replicate k 0))
 
-held-pushed : (s : List ℕ) (b : ℕ) → length s < room → pushed (held s) b ≡ held (s ++ (b ∷ []))
-unfolding held pushed
-held-pushed s b fits =
+textOf-pushed : (s : List ℕ) (b : ℕ) → length s < room → pushed (textOf s) b ≡ textOf (s ++ (b ∷ []))
+unfolding textOf pushed
+textOf-pushed s b fits =
     let left : room - length s ≡ suc (room - length (s ++ (b ∷ []))) = simp length-append (omega arith) in
     rw (lt-ltb (length s) room fits, left, filled s b, length-append)
 
-pub held-appended : (r s : List ℕ) → length (r ++ s) ≤ room → appended (held r) s ≡ held (r ++ s)
+pub textOf-appended : (r s : List ℕ) → length (r ++ s) ≤ room → appended (textOf r) s ≡ textOf (r ++ s)
 unfolding appended
-held-appended r [] fits = rw append-nil
-held-appended r (b ∷ s) fits =
+textOf-appended r [] fits = rw append-nil
+textOf-appended r (b ∷ s) fits =
     let longer : length ((r ++ (b ∷ [])) ++ s) ≤ room = rw append-assoc fits in
-    rw (held-pushed r b (omega (arith, length-append r (b ∷ s))), held-appended (r ++ (b ∷ [])) s longer, append-assoc)
+    let fits-one : length r < room = omega (arith, length-append r (b ∷ s)) in
+    rw (textOf-pushed r b fits-one, textOf-appended (r ++ (b ∷ [])) s longer, append-assoc)

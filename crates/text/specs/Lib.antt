@@ -4,4 +4,3 @@ pub mod Decimal
 pub mod Output
 pub mod Words
 pub mod Number
-pub mod First

@@ -3,18 +3,18 @@
 --     withDigit             a number with one digit more
 --     valueFrom, value      the value of digits, after a number and alone
 --     natural               the value of one to five digits
---     withSign, signed      a number with its sign; what digits give with a sign before them
+--     negated               what digits give after a minus
 --     number                the number that a word gives, if it gives one
---     IsShort               for the code: digits give a value of fewer than six digits
+--     firstNumber           what the first of some words gives; none if there is no word
+--     IsShort               for the code: a number of fewer than six digits
 -- `proofs/RoundTrip.antt` shows that it gives back every number of at most five digits from its decimal text.
-use Prim.Native.Nat.{ℕ, _+_, _-_, _*_, _<_}
-use mathlib.Core.Bool.{Bool, true, false, cond, _&&_}
+use Prim.Native.Nat.{ℕ, _+_, _-_, _*_}
+use mathlib.Core.Bool.{Bool, true, cond, _&&_}
 use mathlib.Core.List.{List, [], _∷_}
 use lib.Dec.{leb, ltb, eqb}
-use lib.IntN.{ℤ, pos, negℤ}
+use lib.IntN.{pos, negℤ}
 use lib.ListN.{length}
-use Rattle.text.specs.declared.input.Digits.{Digits}
-use Rattle.text.specs.declared.input.Digits.the-variants.{Value, Invalid as NoValue}
+use Rattle.integers.specs.Size.{AtMost}
 use Rattle.text.specs.declared.input.Parsed.{Parsed}
 use Rattle.text.specs.declared.input.Parsed.the-variants.{Number, Invalid}
 
@@ -36,23 +36,23 @@ valueFrom n (b ∷ w) = valueFrom (withDigit n b) w
 abbrev pub value : List ℕ → ℕ
 value w = valueFrom 0 w
 
-unfoldable pub natural : List ℕ → Digits
-natural w = cond (ltb 0 (length w) && leb (length w) 5 && allDigits w) (Value (value w)) NoValue
+unfoldable pub natural : List ℕ → Parsed
+natural w = cond (ltb 0 (length w) && leb (length w) 5 && allDigits w) (Number (pos (value w))) Invalid
 
-abbrev pub withSign : Bool → ℕ → ℤ
-withSign true n = negℤ (pos n)
-withSign false n = pos n
-
-abbrev pub signed : Bool → Digits → Parsed
-signed isNegative (Value n) = Number (withSign isNegative n)
-signed isNegative NoValue = Invalid
-
--- for the code: fewer than six digits
-abbrev pub IsShort : Digits → Type 0
-IsShort (Value n) = n < 100000
-IsShort NoValue = Unit {0}
+abbrev pub negated : Parsed → Parsed
+negated (Number z) = Number (negℤ z)
+negated Invalid = Invalid
 
 -- a minus is the byte 45
 unfoldable pub number : List ℕ → Parsed
 number [] = Invalid
-number (b ∷ w) = cond (eqb b 45) (signed true (natural w)) (signed false (natural (b ∷ w)))
+number (b ∷ w) = cond (eqb b 45) (negated (natural w)) (natural (b ∷ w))
+
+abbrev pub firstNumber : List (List ℕ) → Parsed
+firstNumber [] = Invalid
+firstNumber (w ∷ ws) = number w
+
+-- for the code: fewer than six digits
+abbrev pub IsShort : Parsed → Type 0
+IsShort (Number z) = AtMost 99999 z
+IsShort Invalid = Unit {0}

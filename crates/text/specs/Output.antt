@@ -1,6 +1,6 @@
 -- A text as one value.
 --     room        how many bytes it has room for
---     held        a text of at most so many bytes as one value, the unused places zero
+--     textOf      a text of at most so many bytes as one value, the unused places zero
 --     IsText      a value that holds a text
 --     pushed      a text with one byte more; a full one stays as it is
 --     appended    a text with the bytes of a list after it
@@ -15,8 +15,8 @@ use Rattle.text.specs.declared.output.Text.{Text}
 abbrev pub room : ℕ
 room = 512
 
-unfoldable pub held : List ℕ → Text
-held s = record { count = length s; bytes = s ++ replicate (room - length s) 0 }
+unfoldable pub textOf : List ℕ → Text
+textOf s = record { count = length s; bytes = s ++ replicate (room - length s) 0 }
 
 pub record IsText (t : Text) : Type 0 where
   pub fits : t .count ≤ room

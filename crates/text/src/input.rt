@@ -3,29 +3,22 @@ ghost use Prim.Native.Nat.{_+_, _<_};
 ghost use mathlib.Core.Bool.{true};
 ghost use mathlib.Core.Path.{_≡_};
 ghost use lib.ListN.{drop};
-ghost use Rattle.text.specs.Number.{isDigit, withDigit, natural, IsShort, signed, number};
+ghost use Rattle.text.specs.Number.{isDigit, withDigit, natural, IsShort, negated, number, firstNumber};
 ghost use Rattle.text.specs.Words.{isSeparator, isOf, run, words, isEmpty};
-ghost use Rattle.text.specs.First.{firstNumber, asFirst};
 
 // The most digits of a number.
 const MOST_DIGITS: usize = 5;
 
-// What digits give.
-pub enum Digits {
-    Value(u32),
-    Invalid,
-}
-
-// What a word gives.
+// What a word gives: a number, or none.
 pub enum Parsed {
     Number(i32),
     Invalid,
 }
 
-// What the next word of a text gives: a number and the place after the word, or none.
-pub enum Next {
-    Number(i32, usize),
-    Nothing,
+// What the next word of a text gives, and the place after the word.
+pub struct Next {
+    pub number: Parsed,
+    pub end: usize,
 }
 
 fn is_digit(b: u8) -> bool
@@ -44,40 +37,37 @@ fn with_digit(value: u32, b: u8) -> u32
 }
 
 // The value of one to five digits.
-fn natural(w: &[u8]) -> Digits
+fn natural(w: &[u8]) -> Parsed
     ensures { λ r. ⌜ r ≡ natural (now (w .entry)) ⌝ }
 {
     let n = w.len();
     if n == 0 {
-        return Digits::Invalid;
+        return Parsed::Invalid;
     }
     if MOST_DIGITS < n {
-        return Digits::Invalid;
+        return Parsed::Invalid;
     }
     let mut value = 0;
     let mut i = 0;
     while i < n {
         let b = w[i];
         if !is_digit(b) {
-            return Digits::Invalid;
+            return Parsed::Invalid;
         }
         value = with_digit(value, b);
         i += 1;
     }
-    Digits::Value(value)
+    Parsed::Number(value as i32)
 }
 
-// What digits give with a sign before them.
-fn signed(is_negative: bool, digits: Digits) -> Parsed
+// What digits give after a minus.
+fn negated(digits: Parsed) -> Parsed
     requires { ⌜ IsShort digits ⌝ }
-    ensures { λ r. ⌜ r ≡ signed «is_negative» digits ⌝ }
+    ensures { λ r. ⌜ r ≡ negated digits ⌝ }
 {
     match digits {
-        Digits::Value(n) => {
-            let value = n as i32;
-            Parsed::Number(if is_negative { 0 - value } else { value })
-        }
-        Digits::Invalid => Parsed::Invalid,
+        Parsed::Number(n) => Parsed::Number(-n),
+        Parsed::Invalid => Parsed::Invalid,
     }
 }
 
@@ -85,13 +75,10 @@ fn signed(is_negative: bool, digits: Digits) -> Parsed
 fn number(w: &[u8]) -> Parsed
     ensures { λ r. ⌜ r ≡ number (now (w .entry)) ⌝ }
 {
-    if w.len() == 0 {
-        return Parsed::Invalid;
+    if 0 < w.len() && w[0] == b'-' {
+        return negated(natural(&w[1..]));
     }
-    if w[0] == b'-' {
-        return signed(true, natural(&w[1..]));
-    }
-    signed(false, natural(w))
+    natural(w)
 }
 
 // Spaces and line ends split words.
@@ -128,16 +115,20 @@ fn run_end(s: &[u8], from: usize, separators: bool) -> usize
 
 // The number that the first word from a place on gives, and a place from which the words after it can be read.
 pub fn next_number(s: &[u8], from: usize) -> Next
-    ensures { λ r. ⌜ asFirst (now (s .entry)) r ≡ firstNumber (words (drop from (now (s .entry)))) ⌝ }
+    ensures number { λ r. ⌜ r .number ≡ firstNumber (words (drop from (now (s .entry)))) ⌝ }
+    ensures end { λ r. ⌜ words (drop (r .end) (now (s .entry))) ≡ drop 1 (words (drop from (now (s .entry)))) ⌝ }
 {
     let start = run_end(s, from, true);
     let end = run_end(s, start, false);
     if end <= start {
-        return Next::Nothing;
+        return Next {
+            number: Parsed::Invalid,
+            end,
+        };
     }
-    match number(&s[start..end]) {
-        Parsed::Number(value) => Next::Number(value, end),
-        Parsed::Invalid => Next::Nothing,
+    Next {
+        number: number(&s[start..end]),
+        end,
     }
 }
 

@@ -4,7 +4,7 @@ ghost use mathlib.Core.Path.{_≡_};
 ghost use lib.IntN.{pos, natAbs};
 ghost use lib.Signed.{_<ℤ_};
 ghost use Rattle.text.specs.Decimal.{decimal, signedDecimal};
-ghost use Rattle.text.specs.Output.{held, pushed, appended};
+ghost use Rattle.text.specs.Output.{textOf, pushed, appended};
 
 // How many bytes a text has room for.
 const ROOM: usize = 512;
@@ -25,7 +25,7 @@ fn size(n: i64) -> u64
 
 impl Text {
     pub fn empty() -> Text
-        ensures { λ r. ⌜ r ≡ held [] ⌝ }
+        ensures { λ r. ⌜ r ≡ textOf [] ⌝ }
     {
         Text {
             count: 0,

@@ -1,6 +1,7 @@
 // Calls for the benchmarks under bench/, which link them from C. `points` gives x and y of each point. Each answers a number that
 // depends on all its work, so that none can be left out.
 use hausdorff::Comparison;
+use hausdorff::Report;
 use nearest::NearestAnswer;
 use outline::Outline;
 use outline::RefusedSide;
@@ -74,8 +75,10 @@ pub extern "C" fn timing_core(s: &[i32], points: &[i32]) -> u64 {
 fn compared(a: &[i32], b: &[i32], allowance: u32) -> u64 {
     match calls::compare(a, b, allowance) {
         Comparison::Refused(_) => 0,
-        Comparison::Spent(_) => 0,
-        Comparison::Done(done) => done.answer.gap.upper,
+        Comparison::Reported(report) => match report {
+            Report::Spent(_) => 0,
+            Report::Done(done) => done.answer.gap.upper,
+        },
     }
 }
 

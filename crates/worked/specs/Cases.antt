@@ -13,24 +13,25 @@ use Rattle.outline.specs.declared.Verdict.{Verdict}
 use Rattle.outline.specs.declared.Verdict.the-variants.{Taken, Refused}
 use Rattle.outline.specs.declared.Place.the-variants.{Nowhere, EdgeAndCorner}
 use Rattle.outline.specs.declared.RefusedSide.{RefusedSide}
-use Rattle.outline.specs.declared.RefusedSide.the-variants.{NoSide, A as OfA, B as OfB}
+use Rattle.outline.specs.declared.RefusedSide.the-variants.{NoSide, Of}
 use Rattle.outline.specs.Reading.{reading}
 use Rattle.outline.specs.Corners.{corners}
 use Rattle.nearest.specs.declared.NearestAnswer.{NearestAnswer}
-use Rattle.nearest.specs.declared.NearestAnswer.the-variants.{Found, Refused as NearestRefused}
+use Rattle.nearest.specs.declared.NearestAnswer.the-variants as NearestAnswer
 use Rattle.nearest.specs.declared.Feature.{Feature}
-use Rattle.nearest.specs.declared.Feature.the-variants.{Within, Corner as AtCorner, Edge as OnEdge}
+use Rattle.nearest.specs.declared.Feature.the-variants as Feature
 use Rattle.nearest.specs.declared.NearestPoint.{NearestPoint}
 use Rattle.nearest.specs.Call.{nearestAnswer}
 use Rattle.nearest.specs.Search.{search}
 use Rattle.edit.specs.Removal.{removalVerdict, listAfter}
-use Rattle.hausdorff.specs.declared.Side.{Side}
-use Rattle.hausdorff.specs.declared.Side.the-variants.{A, B}
+use Rattle.outline.specs.declared.Side.{Side}
+use Rattle.outline.specs.declared.Side.the-variants.{A, B}
 use Rattle.hausdorff.specs.declared.CornerGap.{CornerGap}
 use Rattle.hausdorff.specs.declared.WorstSoFar.{WorstSoFar}
 use Rattle.hausdorff.specs.declared.WorstSoFar.the-variants.{None, Worst}
 use Rattle.hausdorff.specs.declared.Comparison.{Comparison}
-use Rattle.hausdorff.specs.declared.Comparison.the-variants.{Refused as CompareRefused, Spent, Done}
+use Rattle.hausdorff.specs.declared.Comparison.the-variants as Comparison
+use Rattle.hausdorff.specs.declared.Report.the-variants as Report
 use Rattle.hausdorff.specs.Pair.{Pair, both}
 use Rattle.hausdorff.specs.AngularOrder.{PairEdge, angularOrder}
 use Rattle.hausdorff.specs.Exhaustive.{exhaustive}
@@ -96,13 +97,25 @@ abbrev pub point : ℤ → ℤ → Corner
 point x y = record { x = x; y = y }
 
 abbrev edgeOne : NearestPoint
-edgeOne = record { feature = OnEdge 1; gap = record { upper = 2025; lower = 90 }; point = record { x = pos 405; y = pos 135; lower = 90 } }
+edgeOne = record {
+  feature = Feature.Edge 1;
+  gap = record { upper = 2025; lower = 90 };
+  point = record { x = pos 405; y = pos 135; lower = 90 };
+}
 
 abbrev cornerOne : ℕ → NearestPoint
-cornerOne gap = record { feature = AtCorner 1; gap = record { upper = gap; lower = 1 }; point = record { x = pos 9; y = pos 0; lower = 1 } }
+cornerOne gap = record {
+  feature = Feature.Corner 1;
+  gap = record { upper = gap; lower = 1 };
+  point = record { x = pos 9; y = pos 0; lower = 1 };
+}
 
 abbrev within : ℤ → ℤ → NearestPoint
-within x y = record { feature = Within; gap = record { upper = 0; lower = 1 }; point = record { x = x; y = y; lower = 1 } }
+within x y = record {
+  feature = Feature.Within;
+  gap = record { upper = 0; lower = 1 };
+  point = record { x = x; y = y; lower = 1 };
+}
 
 -- lists to write, whatever they hold before
 abbrev pub four : List ℤ
@@ -162,10 +175,12 @@ corner s i f upper x y lower = record {
 }
 
 abbrev spent : ℕ → ℕ → ℕ → WorstSoFar → Comparison
-spent steps i j worst = Spent (record { steps = steps; support = record { a = i; b = j }; worst = worst })
+spent steps i j worst =
+    Comparison.Reported (Report.Spent (record { steps = steps; support = record { a = i; b = j }; worst = worst }))
 
 abbrev done : ℕ → CornerGap → ℕ → Comparison
-done steps answer clearance = Done (record { steps = steps; answer = answer; clearance = clearance })
+done steps answer clearance =
+    Comparison.Reported (Report.Done (record { steps = steps; answer = answer; clearance = clearance }))
 
 abbrev pub cases : List Case
 cases =
@@ -179,39 +194,39 @@ cases =
     ∷ removes T 0 four (Refused tooFew) four
     ∷ removes T 1 four (Refused tooFew) four
     ∷ removes T 2 four (Refused tooFew) four
-    ∷ nears (point (pos 6) (pos 6)) wedge (Found edgeOne)
-    ∷ nears (point (pos 12) (pos 9)) wedge (Found (cornerOne 90))
+    ∷ nears (point (pos 6) (pos 6)) wedge (NearestAnswer.Found edgeOne)
+    ∷ nears (point (pos 12) (pos 9)) wedge (NearestAnswer.Found (cornerOne 90))
     -- the foot on edge 0 is its end; on the border; at a corner
-    ∷ nears (point (pos 9) (negsuc 4)) wedge (Found (cornerOne 25))
-    ∷ nears (point (pos 6) (pos 1)) wedge (Found (within (pos 6) (pos 1)))
-    ∷ nears (point (pos 9) (pos 0)) wedge (Found (within (pos 9) (pos 0)))
-    ∷ nears (point (pos 0) (negsuc 16000)) wedge (NearestRefused pointOut)
-    ∷ nears (point (pos 0) (negsuc 16000)) clockwise (NearestRefused (notLeft NoSide 0 2))
+    ∷ nears (point (pos 9) (negsuc 4)) wedge (NearestAnswer.Found (cornerOne 25))
+    ∷ nears (point (pos 6) (pos 1)) wedge (NearestAnswer.Found (within (pos 6) (pos 1)))
+    ∷ nears (point (pos 9) (pos 0)) wedge (NearestAnswer.Found (within (pos 9) (pos 0)))
+    ∷ nears (point (pos 0) (negsuc 16000)) wedge (NearestAnswer.Refused pointOut)
+    ∷ nears (point (pos 0) (negsuc 16000)) clockwise (NearestAnswer.Refused (notLeft NoSide 0 2))
     ∷ searches (point (pos 6) (pos 6)) wedge edgeOne
     ∷ searches (point (pos 12) (pos 9)) wedge (cornerOne 90)
     ∷ searches (point (pos 6) (pos 1)) wedge (within (pos 6) (pos 1))
     ∷ orders S T (a 0 ∷ b 0 ∷ a 1 ∷ b 1 ∷ a 2 ∷ a 3 ∷ b 2 ∷ [])
-    ∷ compares S T 512 (done 7 (corner A 2 (OnEdge 1) 256 (pos 64) (pos 64) 32) 2)
+    ∷ compares S T 512 (done 7 (corner A 2 (Feature.Edge 1) 256 (pos 64) (pos 64) 32) 2)
     ∷ compares S T 0 (spent 0 0 0 None)
     ∷ compares S T 3 (spent 3 2 1 None)
-    ∷ compares S T 4 (spent 4 2 2 (Worst (corner A 2 (OnEdge 1) 256 (pos 64) (pos 64) 32)))
-    ∷ compares S T 6 (spent 6 0 2 (Worst (corner A 2 (OnEdge 1) 256 (pos 64) (pos 64) 32)))
-    ∷ compares T S 7 (done 7 (corner B 2 (OnEdge 1) 256 (pos 64) (pos 64) 32) 2)
-    ∷ compares S moved 8 (done 8 (corner A 0 (AtCorner 0) 100 (pos 10) (pos 0) 1) 10)
-    ∷ compares S S 8 (done 8 (corner A 0 Within 0 (pos 0) (pos 0) 1) 0)
-    ∷ compares S turned 8 (done 8 (corner A 0 Within 0 (pos 0) (pos 0) 1) 0)
-    ∷ compares turned S 8 (done 8 (corner A 0 Within 0 (pos 4) (pos 4) 1) 0)
-    ∷ compares low high 6 (done 6 (corner A 0 (OnEdge 1) 4095872001 (pos 31999) (pos 31999) 2) 45254)
+    ∷ compares S T 4 (spent 4 2 2 (Worst (corner A 2 (Feature.Edge 1) 256 (pos 64) (pos 64) 32)))
+    ∷ compares S T 6 (spent 6 0 2 (Worst (corner A 2 (Feature.Edge 1) 256 (pos 64) (pos 64) 32)))
+    ∷ compares T S 7 (done 7 (corner B 2 (Feature.Edge 1) 256 (pos 64) (pos 64) 32) 2)
+    ∷ compares S moved 8 (done 8 (corner A 0 (Feature.Corner 0) 100 (pos 10) (pos 0) 1) 10)
+    ∷ compares S S 8 (done 8 (corner A 0 Feature.Within 0 (pos 0) (pos 0) 1) 0)
+    ∷ compares S turned 8 (done 8 (corner A 0 Feature.Within 0 (pos 0) (pos 0) 1) 0)
+    ∷ compares turned S 8 (done 8 (corner A 0 Feature.Within 0 (pos 4) (pos 4) 1) 0)
+    ∷ compares low high 6 (done 6 (corner A 0 (Feature.Edge 1) 4095872001 (pos 31999) (pos 31999) 2) 45254)
     -- of equal gaps corner 2 takes the place of corner 3, which was found before
-    ∷ compares square squareMoved 5 (spent 5 2 1 (Worst (corner A 3 (AtCorner 3) 100 (pos 9) (negsuc 0) 1)))
-    ∷ compares square squareMoved 6 (spent 6 2 2 (Worst (corner A 2 (AtCorner 2) 100 (pos 9) (pos 1) 1)))
+    ∷ compares square squareMoved 5 (spent 5 2 1 (Worst (corner A 3 (Feature.Corner 3) 100 (pos 9) (negsuc 0) 1)))
+    ∷ compares square squareMoved 6 (spent 6 2 2 (Worst (corner A 2 (Feature.Corner 2) 100 (pos 9) (pos 1) 1)))
     -- the nearest point is a neighbour of the support corner
-    ∷ compares thin wide 2 (spent 2 0 0 (Worst (corner A 0 (AtCorner 0) 4 (pos 0) (pos 0) 1)))
+    ∷ compares thin wide 2 (spent 2 0 0 (Worst (corner A 0 (Feature.Corner 0) 4 (pos 0) (pos 0) 1)))
     -- refused: A's list, B's, and both, where A's refusal stands
-    ∷ compares star T 0 (CompareRefused (notLeft OfA 0 3))
-    ∷ compares S clockwise 0 (CompareRefused (notLeft OfB 0 2))
-    ∷ compares straight star 512 (CompareRefused (notLeft OfA 0 2))
-    ∷ exhausts S T (corner A 2 (OnEdge 1) 256 (pos 64) (pos 64) 32)
-    ∷ exhausts low high (corner A 0 (OnEdge 1) 4095872001 (pos 31999) (pos 31999) 2)
-    ∷ exhausts square squareMoved (corner A 2 (AtCorner 2) 100 (pos 9) (pos 1) 1)
+    ∷ compares star T 0 (Comparison.Refused (notLeft (Of A) 0 3))
+    ∷ compares S clockwise 0 (Comparison.Refused (notLeft (Of B) 0 2))
+    ∷ compares straight star 512 (Comparison.Refused (notLeft (Of A) 0 2))
+    ∷ exhausts S T (corner A 2 (Feature.Edge 1) 256 (pos 64) (pos 64) 32)
+    ∷ exhausts low high (corner A 0 (Feature.Edge 1) 4095872001 (pos 31999) (pos 31999) 2)
+    ∷ exhausts square squareMoved (corner A 2 (Feature.Corner 2) 100 (pos 9) (pos 1) 1)
     ∷ []

@@ -1,6 +1,5 @@
 -- `calls::compare` goes by what reading A's list gives, then by what reading B's gives, and then by the report of the steps.
 use borrow.Author.Needs.{needs}
-use mathlib.Core.Path.{sym, _∙_}
 use Rattle.hausdorff.proofs.CallLaws.{call-unread-a, call-unread-b, call-asks, call-reported, call-promises}
 use Rattle.calls.proofs.compare.Statement.{statement}
 use Rattle.calls.proofs.compare.Tie as tie
@@ -22,19 +21,10 @@ compare-requires c κs = (
 
 returns-3 : tie.Need-returns-3
 returns-3 c =
-    let d = c .before .before .before .before in
+    let d = c .before in
     call-promises _ _ _ (call-reported _ _ _
     (d .before .before .before .before .before .read .ensures) (d .before .before .before .enum-told .given .1)
-    (d .before .before .read2 .ensures) (d .enum-told2 .given .1)
-    (sym (c .before .spent .given .1) ∙ c .before .before .before .compare .ensures))
-
-returns-4 : tie.Need-returns-4
-returns-4 c =
-    let d = c .before .before .before .before in
-    call-promises _ _ _ (call-reported _ _ _
-    (d .before .before .before .before .before .read .ensures) (d .before .before .before .enum-told .given .1)
-    (d .before .before .read2 .ensures) (d .enum-told2 .given .1)
-    (sym (c .before .done .given .1) ∙ c .before .before .before .compare .ensures))
+    (d .before .before .read2 .ensures) (d .enum-told2 .given .1) (c .compare .ensures))
 
 pub compare-spec : {M : Type 1} → statement M
 compare-spec =
@@ -46,6 +36,4 @@ compare-spec =
     returns-2
     (search needs)
     compare-requires
-    (search needs) (search needs)
-    returns-3
-    returns-4)
+    returns-3)

@@ -1,7 +1,7 @@
 -- `calls::nearest_point` goes by what reading gives and then by the point's range.
 use borrow.Author.Needs.{needs}
 use mathlib.Core.Path.{ap, _∙_}
-use Rattle.nearest.specs.declared.NearestAnswer.the-variants.{Found, Refused}
+use Rattle.nearest.specs.declared.NearestAnswer.the-variants.{Found}
 use Rattle.nearest.proofs.CallLaws.{call-unread, call-out-of-range, call-asks, call-found}
 use Rattle.calls.proofs.nearest_point.Statement.{statement}
 use Rattle.calls.proofs.nearest_point.Tie as tie
@@ -11,9 +11,8 @@ returns c = call-unread _ _ (c .before .before .before .read-outline .ensures) (
 
 returns-2 : tie.Need-returns-2
 returns-2 c =
-    ap Refused (c .refusal .ensures)
-    ∙ call-out-of-range _ _ (c .before .before .before .before .before .read-outline .ensures)
-    (c .before .before .before .enum-told .given .1) (rw (c .before .before .in-range .ensures) at (c .before .if1 .taken))
+    call-out-of-range _ _ (c .before .before .before .before .read-outline .ensures)
+    (c .before .before .enum-told .given .1) (rw (c .before .in-range .ensures) at (c .if1 .taken))
 
 nearest-requires : tie.Need-nearest-requires
 nearest-requires c κs =
@@ -32,7 +31,7 @@ nearest-point-spec =
     (tie.spec
     (search needs) (search needs)
     returns
-    (search needs) (search needs) (search needs)
+    (search needs) (search needs)
     returns-2
     nearest-requires
     returns-3)

@@ -20,17 +20,17 @@ make-steps-requires c κs =
     let pre = c .before .before .pre in
     (pre .0, (pre .1, ⊎-elim (λ w. omega (arith, ltb-true)) (λ w. omega arith) (c .if1 .came)))
 
-report-requires : tie.Need-report-requires
-report-requires c κs =
+report-of-requires : tie.Need-report-of-requires
+report-of-requires c κs =
     let run = c .before in let pre = run .before .before .before .pre in
     after-bounded _ (outlines-accepted (pre .0) (pre .1)) _ (run .make-steps .ensures)
 
 returns : tie.Need-returns
 returns c =
     let run = c .before .before in let start = run .before .before .before in let pre = start .pre in
-    c .report .ensures
+    c .report-of .ensures
     ∙ compare-reports (pre .0) (pre .1) (search (length-mapped, start .good .0)) (search (length-mapped, start .good .1 .0)) _
     (⊎-elim (λ w. rw (w .0 .taken) (w .1)) (λ w. rw (w .0 .left) (w .1)) (run .before .if1 .came)) (run .make-steps .ensures)
 
 pub compare-spec : {M : Type 1} → statement M
-compare-spec = tie.close (tie.spec add-total cast-total make-steps-requires (omega arith) report-requires returns)
+compare-spec = tie.close (tie.spec add-total cast-total make-steps-requires (omega arith) report-of-requires returns)

@@ -22,7 +22,7 @@ lowest-requires-2 c κs = c .before .before .pre .1 .0
 loop-holds : tie.Need-loop-holds Inv-loop μ-loop
 loop-holds c =
     let start = c .before .before .before .before in
-    rw (c .before .before .begin .ensures, c .begin2 .ensures)
+    rw (c .before .before .beginning .ensures, c .beginning2 .ensures)
     (run-begins (start .pre .0) (start .pre .1 .0) (search length-mapped) (search length-mapped) (start .pre .1 .1)
     (c .before .before .before .lowest .ensures) (c .before .lowest2 .ensures))
 

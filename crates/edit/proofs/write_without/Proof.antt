@@ -6,13 +6,14 @@ use native.Mathlib.Omega.{arith}
 use Prim.Native.Nat.{ℕ, _≤_, _<_, _-_, _+_, _*_}
 use lib.IntN.{ℤ}
 use lib.ListN.{length}
+use Rattle.lists.proofs.CopyLaws.{copied, copied-length, copied-all}
 use Rattle.plane.specs.declared.Corner.{Corner}
 use Rattle.plane.specs.Vector.{coordinates}
 use Rattle.outline.specs.Corners.{corners, corner}
 use Rattle.outline.proofs.CornersLaws.{corners-fit}
-use Rattle.edit.specs.Removal.{without, kept, Removable, putCorner}
-use Rattle.edit.proofs.Without.{kept-≤, length-without, numbers-without, corner-without}
-use Rattle.edit.proofs.Writing.{copied, copied-length, copied-all, put-next}
+use Rattle.edit.specs.Removal.{without, oldNumber, Removable, putCorner}
+use Rattle.edit.proofs.Without.{oldNumber-≤, length-without, numbers-without, corner-without}
+use Rattle.edit.proofs.Writing.{put-next}
 use Rattle.edit.proofs.write_without.Statement.{statement}
 use Rattle.edit.proofs.write_without.Tie as tie
 
@@ -27,7 +28,7 @@ module _ {s : List ℤ} {k : ℕ} {out₀ : List ℤ} (able : Removable s k out�
   room i most is = ap length is ∙ copied-length out₀ (remains s k) (2 * i) (able .long) (omega (arith, count))
 
   put : (i : ℕ) {j : ℕ} {out : List ℤ} {p : Corner} → i < length (corners s) - 1 → out ≡ copied out₀ (remains s k) (2 * i)
-      → j ≡ kept k i → p ≡ corner (corners s) j → putCorner out i p ≡ copied out₀ (remains s k) (2 * (i + 1))
+      → j ≡ oldNumber k i → p ≡ corner (corners s) j → putCorner out i p ≡ copied out₀ (remains s k) (2 * (i + 1))
   put i below is from read =
       rw (is, read, from, ← corner-without k (corners s) i)
       (put-next out₀ (without k (corners s)) i (able .long) (omega (arith, length-without k (corners s) (able .known))))
@@ -41,11 +42,12 @@ abbrev μ-loop : tie.MeasureT-loop
 loop-holds : tie.Need-loop-holds Inv-loop μ-loop
 loop-holds c = (omega arith, refl)
 
-kept-requires : tie.Need-kept-requires Inv-loop μ-loop
-kept-requires c κs = omega (arith, corners-fit (c .before .before .before .before .args .s .now))
+old-number-requires : tie.Need-old-number-requires Inv-loop μ-loop
+old-number-requires c κs = omega (arith, corners-fit (c .before .before .before .before .args .s .now))
 
 corner-requires : tie.Need-corner-requires Inv-loop μ-loop
-corner-requires c κs = omega (arith, kept-≤ (c .before .before .before .before .before .args .k) (c .before .before .before .loop .i))
+corner-requires c κs =
+    omega (arith, oldNumber-≤ (c .before .before .before .before .before .args .k) (c .before .before .before .loop .i))
 
 put-corner-requires : tie.Need-put-corner-requires Inv-loop μ-loop
 put-corner-requires c κs =
@@ -57,7 +59,8 @@ loop-again c =
     let able = c .before .before .before .before .before .before .before .before .pre in (
       omega arith,
       c .before .put-corner .ensures ∙ put able _ (omega arith)
-          (c .before .before .before .before .before .before .loop .inv .1) (c .before .before .before .kept .ensures)
+          (c .before .before .before .before .before .before .loop .inv .1)
+          (c .before .before .before .old-number .ensures)
           (c .before .before .corner .ensures),
     )
 
@@ -77,7 +80,7 @@ write-without-spec =
     (tie.spec Inv-loop μ-loop
     (search needs) (omega arith)
     loop-holds
-    kept-requires
+    old-number-requires
     corner-requires
     put-corner-requires
     (omega arith) (omega arith)

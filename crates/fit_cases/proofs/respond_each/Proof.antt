@@ -3,7 +3,7 @@ use borrow.Author.Needs.{needs}
 use native.Mathlib.Omega.{arith}
 use Prim.Native.Nat.{_-_}
 use lib.ListN.{length}
-use Rattle.text.proofs.OutputLaws.{held-text}
+use Rattle.text.proofs.OutputLaws.{textOf-text}
 use Rattle.fit_cases.proofs.respond_each.Statement.{statement}
 use Rattle.fit_cases.proofs.respond_each.Tie as tie
 
@@ -13,8 +13,8 @@ Inv-loop s from₀ from = Unit {0}
 abbrev μ-loop : tie.MeasureT-loop
 μ-loop s from₀ from = length s - from
 
-held-requires : tie.Need-held-requires Inv-loop μ-loop
-held-requires c κs = rw (c .respond .ensures .0) (held-text _ (c .respond .ensures .1))
+write-requires : tie.Need-write-requires Inv-loop μ-loop
+write-requires c κs = rw (c .respond .ensures .0) (textOf-text _ (c .respond .ensures .1))
 
 add-from : tie.Need-add-from Inv-loop μ-loop
 add-from c =
@@ -25,6 +25,6 @@ respond-each-spec =
     tie.close
     (tie.spec Inv-loop μ-loop
     (λ _. tt) (omega arith) (omega arith) (omega arith) (omega arith) (search needs)
-    held-requires
+    write-requires
     add-from
     (omega arith) (λ _. tt) (search needs))

@@ -8,10 +8,10 @@ use Rattle.fit_lines.proofs.done.Tie as tie
 returns : tie.Need-returns
 unfolding doneText
 returns c =
-    let gap = c .before .before .before .before .before .before .before .gap .ensures in
+    let gap = c .before .before .before .before .before .before .before .gap-line .ensures in
     let figure = joined _ _ _ gap (c .before .before .before .before .before .number-line .ensures) in
-    let corner = joined _ _ _ figure (c .before .before .before .before .from .ensures) in
-    let nearest = joined _ _ _ corner (c .before .before .before .to .ensures) in
+    let corner = joined _ _ _ figure (c .before .before .before .before .from-line .ensures) in
+    let nearest = joined _ _ _ corner (c .before .before .before .to-line .ensures) in
     joined _ _ _ nearest (c .number-line2 .ensures)
 
 pub done-spec : {M : Type 1} → statement M

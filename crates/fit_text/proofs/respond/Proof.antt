@@ -7,8 +7,8 @@ use Prim.Native.Nat.{ℕ, _≤_, _<_}
 use lib.ListN.{length}
 use Rattle.text.specs.declared.output.Text.{Text}
 use Rattle.text.specs.Ascii.{ascii}
-use Rattle.text.specs.Output.{room, held, appended}
-use Rattle.text.proofs.OutputLaws.{held-appended}
+use Rattle.text.specs.Output.{room, textOf, appended}
+use Rattle.text.proofs.OutputLaws.{textOf-appended}
 use Rattle.hausdorff.specs.declared.Comparison.{Comparison}
 use Rattle.fit_lines.specs.Lines.{comparisonText}
 use Rattle.fit_text.specs.declared.parsing.Outcome.the-variants.{Compared, Unreadable}
@@ -20,7 +20,7 @@ use Rattle.fit_text.proofs.respond.Tie as tie
 
 module _ (s : List ℕ) where
   abbrev Right : Text → Type 0
-  Right r = (r ≡ held (response s)) × (length (response s) ≤ room)
+  Right r = (r ≡ textOf (response s)) × (length (response s) ≤ room)
 
   too-long : mostBytes < length s → judged s ≡ Unreadable
   too-long long = rw (lt-ltb mostBytes (length s) long)
@@ -28,13 +28,14 @@ module _ (s : List ℕ) where
   short-enough : length s ≤ mostBytes → judged s ≡ outcome s
   short-enough short = rw (le-ltb mostBytes (length s) short)
 
-  unread : {r : Text} → r ≡ held (ascii "unreadable\n") → judged s ≡ Unreadable → Right r
+  unread : {r : Text} → r ≡ textOf (ascii "unreadable\n") → judged s ≡ Unreadable → Right r
   unread is judgement = (rw judgement is, response-fits s)
 
-  compared : {t r : Text} {c : Comparison} → t ≡ held [] → r ≡ appended t (comparisonText c) → judged s ≡ Compared c → Right r
+  compared : {t r : Text} {c : Comparison} → t ≡ textOf [] → r ≡ appended t (comparisonText c) → judged s ≡ Compared c
+      → Right r
   compared {c} empty is judgement =
       let fits : length (comparisonText c) ≤ room = rw judgement at (response-fits s) in
-      (rw (judgement, is, empty) (held-appended [] (comparisonText c) fits), response-fits s)
+      (rw (judgement, is, empty) (textOf-appended [] (comparisonText c) fits), response-fits s)
 
 returns : tie.Need-returns
 returns c =

@@ -5,13 +5,13 @@ use mathlib.Core.Path.{_≡_}
 use native.Mathlib.Omega.{arith}
 use Rattle.text.specs.declared.output.Text.{Text}
 use Rattle.text.specs.Ascii.{ascii}
-use Rattle.text.specs.Output.{held, appended}
-use Rattle.text.proofs.OutputLaws.{held-appended}
+use Rattle.text.specs.Output.{textOf, appended}
+use Rattle.text.proofs.OutputLaws.{textOf-appended}
 use Rattle.fit_text.proofs.unreadable.Statement.{statement}
 use Rattle.fit_text.proofs.unreadable.Tie as tie
 
-written : {t r : Text} → t ≡ held [] → r ≡ appended t (ascii "unreadable\n") → r ≡ held (ascii "unreadable\n")
-written empty is = rw (is, empty) (held-appended [] (ascii "unreadable\n") (omega arith))
+written : {t r : Text} → t ≡ textOf [] → r ≡ appended t (ascii "unreadable\n") → r ≡ textOf (ascii "unreadable\n")
+written empty is = rw (is, empty) (textOf-appended [] (ascii "unreadable\n") (omega arith))
 
 returns : tie.Need-returns
 returns c = written (c .before .before .empty .ensures) (c .bytes .ensures)

@@ -31,11 +31,18 @@ returns c = rw (leZ-not (past (c .before .before .before .before)) (pos 0), ← 
 returns-2 : tie.Need-returns-2
 returns-2 c = rw (not-past (c .before), c .if2 .taken)
 
+-- the edge to `beyond` is the edge after `end`, or the edge before it
 returns-3 : tie.Need-returns-3
 returns-3 c =
-    let made = c .before .before .before .before in
-    rw (not-past (c .before .before), c .before .if2 .left, ← made .difference2 .ensures, ← made .before .difference .ensures)
-    (c .is-right-of .ensures)
+    let tested = c .before .before in let made = tested .before .before .before in
+    rw (not-past (tested .before), tested .if2 .left, c .before .if3 .taken, ← made .difference2 .ensures)
+    (c .is-right .ensures)
+
+returns-4 : tie.Need-returns-4
+returns-4 c =
+    let tested = c .before .before in let made = tested .before .before .before in
+    rw (not-past (tested .before), tested .if2 .left, c .before .if3 .left, ← made .difference2 .ensures)
+    (c .is-left .ensures)
 
 pub end-is-nearest-spec : {M : Type 1} → statement M
 end-is-nearest-spec =
@@ -45,4 +52,6 @@ end-is-nearest-spec =
     returns
     returns-2
     (λ c κs. search span-difference)
-    returns-3)
+    returns-3
+    (λ c κs. search span-difference)
+    returns-4)

@@ -3,7 +3,7 @@ use borrow.Author.Needs.{needs}
 use mathlib.Core.Path.{_≡_, sym, _∙_}
 use Rattle.hausdorff.specs.declared.Comparison.{Comparison}
 use Rattle.ravinebowl.specs.Calls.{compareStatus, compareList, statusOfComparison, listOfComparison}
-use Rattle.hausdorff.proofs.Fitting.{spent-fits, done-fits}
+use Rattle.hausdorff.proofs.Fitting.{report-fits}
 use Rattle.ravinebowl.proofs.CallsLaws.{compare-wrong, compare-right}
 use Rattle.ravinebowl.proofs.ravinebowl_compare.Statement.{statement}
 use Rattle.ravinebowl.proofs.ravinebowl_compare.Tie as tie
@@ -19,11 +19,9 @@ returns c =
     let (status, list) = compare-wrong _ _ _ _ (c .before .if1 .taken) in
     (c .wrong-result-length .ensures ∙ sym status, sym list)
 
-of-spent-requires : tie.Need-of-spent-requires
-of-spent-requires c κs = spent-fits _ _ _ (rw (c .before .spent .given .1) at (c .before .before .before .compare .ensures .1))
-
-of-done-requires : tie.Need-of-done-requires
-of-done-requires c κs = done-fits _ _ _ (rw (c .before .done .given .1) at (c .before .before .before .compare .ensures .1))
+of-report-requires : tie.Need-of-report-requires
+of-report-requires c κs =
+    report-fits _ _ _ _ (rw (c .before .report .given .1) at (c .before .before .before .compare .ensures .1))
 
 returns-2 : tie.Need-returns-2
 returns-2 c =
@@ -33,14 +31,8 @@ returns-2 c =
 returns-3 : tie.Need-returns-3
 returns-3 c =
     let wrote = c .before .before in let made = wrote .before .before .before in let known = made .before .before in
-    let (status, list) = right (known .before .before) (known .spent .given .1) in
-    (c .answered .ensures ∙ sym status, wrote .write .ensures ∙ made .of-spent .ensures ∙ sym list)
-
-returns-4 : tie.Need-returns-4
-returns-4 c =
-    let wrote = c .before .before in let made = wrote .before .before .before in let known = made .before .before in
-    let (status, list) = right (known .before .before) (known .done .given .1) in
-    (c .answered2 .ensures ∙ sym status, wrote .write2 .ensures ∙ made .of-done .ensures ∙ sym list)
+    let (status, list) = right (known .before .before) (known .report .given .1) in
+    (c .answered .ensures ∙ sym status, wrote .write .ensures ∙ made .of-report .ensures ∙ sym list)
 
 pub ravinebowl-compare-spec : {M : Type 1} → statement M
 ravinebowl-compare-spec =
@@ -49,12 +41,8 @@ ravinebowl-compare-spec =
     (search needs)
     returns
     (search needs) (search needs) (search needs) (search needs)
-    of-spent-requires
-    (search needs) (search needs) (search needs) (search needs)
-    of-done-requires
+    of-report-requires
     (search needs) (search needs) (search needs)
     returns-2
     (search needs)
-    returns-3
-    (search needs)
-    returns-4)
+    returns-3)

@@ -7,8 +7,8 @@ use native.Mathlib.Numerals.{add-one}
 use Prim.Native.Nat.{ℕ, _≤_, _<_, _+_, _-_}
 use lib.IntN.{ℤ, pos}
 use lib.ListN.{length, getD, set}
-use Rattle.edit.proofs.Writing.{copied, copied-length, copied-suc, copied-all}
-use Rattle.encoding.proofs.Signed.{kept}
+use Rattle.lists.proofs.CopyLaws.{copied, copied-length, copied-suc, copied-all}
+use Rattle.encoding.proofs.Signed.{i64-is}
 use Rattle.ravinebowl.proofs.write.Statement.{statement}
 use Rattle.ravinebowl.proofs.write.Tie as tie
 
@@ -19,7 +19,7 @@ module _ (numbers list₀ : List ℤ) (i : ℕ) {list : List ℤ} (long : length
   room most = ap length is ∙ copied-length list₀ numbers i long most
 
   next : {z : ℤ} → i < length numbers → z ≡ getD numbers i (pos 0) → set list i z ≡ copied list₀ numbers (i + 1)
-  next below read = rw (is, read, add-one) (copied-suc list₀ numbers i (omega arith) below)
+  next below read = rw (is, read, add-one) (copied-suc list₀ numbers (pos 0) i (omega arith) below)
 
 abbrev Inv-loop : tie.InvT-loop
 Inv-loop numbers list₀ i₀ list i = (i ≤ length numbers) × (list ≡ copied list₀ numbers i)
@@ -37,8 +37,11 @@ slice-set-from-list c =
 
 loop-again : tie.Need-loop-again Inv-loop μ-loop
 loop-again c =
-    let at-loop = c .before .before in
-    (omega arith, next _ _ _ (at-loop .before .pre) (at-loop .loop .inv .1) (omega arith) (kept (search sfits-of) refl))
+    let at-loop = c .before .before in (
+      omega arith,
+      next _ _ _ (at-loop .before .pre) (at-loop .loop .inv .1) (omega arith)
+          (i64-is (search sfits-of) refl),
+    )
 
 same-length : tie.Need-same-length Inv-loop μ-loop
 same-length c = room _ _ _ (c .before .before .pre) (c .before .loop .inv .1) (c .before .loop .inv .0)

@@ -15,23 +15,23 @@ returns c = rw (c .if1 .taken)
 returns-2 : tie.Need-returns-2
 returns-2 c = rw (ne-eqb _ 0 (c .before .if1 .left), c .if2 .taken)
 
-side-requires : tie.Need-side-requires
-side-requires c κs =
+cross-requires : tie.Need-cross-requires
+cross-requires c κs =
     let in-a = window-range (c .before .before .before .before .pre .seen-a) in
     let in-b = window-range (c .before .before .before .before .pre .seen-b) in
     search span-difference
 
 returns-3 : tie.Need-returns-3
 returns-3 c =
-    let fits : SFits w64 (c .side .result) = search sfits-of in
+    let fits : SFits w64 (c .cross .result) = search sfits-of in
     rw (
       ne-eqb _ 0 (c .before .before .before .before .if1 .left),
       ne-eqb _ 0 (c .before .before .before .if2 .left),
       toZ-ofZ fits,
-      c .side .ensures,
+      c .cross .ensures,
       c .before .difference2 .ensures,
       c .before .before .difference .ensures,
     )
 
 pub b-is-next-spec : {M : Type 1} → statement M
-b-is-next-spec = tie.close (tie.spec returns returns-2 (search needs) (search needs) side-requires returns-3)
+b-is-next-spec = tie.close (tie.spec returns returns-2 (search needs) (search needs) cross-requires returns-3)

@@ -1,6 +1,6 @@
 -- `encoding::results::number_of` goes by the feature.
 use borrow.Author.Needs.{needs, sfits-of}
-use Rattle.encoding.proofs.Signed.{kept}
+use Rattle.encoding.proofs.Signed.{i64-is}
 use Rattle.encoding.proofs.results.number_of.Statement.{statement}
 use Rattle.encoding.proofs.results.number_of.Tie as tie
 
@@ -14,10 +14,10 @@ returns : tie.Need-returns
 returns c = rw (c .enum-told .given .1)
 
 returns-2 : tie.Need-returns-2
-returns-2 c = rw (c .before .before .feature .given .1) (search (kept, sfits-of))
+returns-2 c = rw (c .before .before .feature .given .1) (search (i64-is, sfits-of))
 
 returns-3 : tie.Need-returns-3
-returns-3 c = rw (c .before .before .feature2 .given .1) (search (kept, sfits-of))
+returns-3 c = rw (c .before .before .feature2 .given .1) (search (i64-is, sfits-of))
 
 pub number-of-spec : {M : Type 1} → statement M
 number-of-spec =

@@ -1,15 +1,16 @@
 -- `encoding::results::of_corner` puts side and corner before the numbers of the nearest point.
 use borrow.Author.Needs.{needs, sfits-of}
 use mathlib.Core.List.{[], _∷_}
-use Rattle.encoding.proofs.Signed.{kept, element}
+use Rattle.encoding.proofs.Signed.{i64-is, element}
 use Rattle.encoding.proofs.results.of_corner.Statement.{statement}
 use Rattle.encoding.proofs.results.of_corner.Tie as tie
 
 returns : tie.Need-returns
 returns c =
     let n = c .before .before .before .before .before .before .before .before .before .of-nearest .ensures in
-    let side = kept (search sfits-of) (c .before .before .before .before .before .before .before .before .side-of .ensures) in
-    let corner = kept (search sfits-of) (c .before .before .before .before .before .before .before .signed .ensures) in
+    let numbered = c .before .before .before .before .before .before .before in
+    let side = i64-is (search sfits-of) (numbered .before .side-code .ensures) in
+    let corner = i64-is (search sfits-of) (numbered .signed .ensures) in
     λ k. side k ∷ corner k
     ∷ element n 0 (search sfits-of) k
     ∷ element n 1 (search sfits-of) k

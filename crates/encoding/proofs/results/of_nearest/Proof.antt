@@ -2,7 +2,7 @@
 use borrow.Author.Needs.{needs, sfits-of}
 use mathlib.Core.Path.{refl}
 use mathlib.Core.List.{[], _∷_}
-use Rattle.encoding.proofs.Signed.{kept}
+use Rattle.encoding.proofs.Signed.{i64-is}
 use Rattle.encoding.proofs.results.of_nearest.Statement.{statement}
 use Rattle.encoding.proofs.results.of_nearest.Tie as tie
 
@@ -10,13 +10,13 @@ returns : tie.Need-returns
 returns c =
     let start = c .before .before .before .before .before .before in
     let a = start .args .a in
-    let kind = kept (search sfits-of) (c .before .before .before .before .before .kind-of .ensures) in
-    let number = kept (search sfits-of) (c .before .before .before .before .number-of .ensures) in
-    let upper = kept (search sfits-of) (c .before .before .before .signed .ensures) in
-    let lower = kept (search sfits-of) (c .before .before .signed2 .ensures) in
-    let x = kept {z = a .point .x} (search sfits-of) refl in
-    let y = kept {z = a .point .y} (search sfits-of) refl in
-    let d = kept (search sfits-of) (c .before .signed3 .ensures) in
+    let kind = i64-is (search sfits-of) (c .before .before .before .before .before .kind-of .ensures) in
+    let number = i64-is (search sfits-of) (c .before .before .before .before .number-of .ensures) in
+    let upper = i64-is (search sfits-of) (c .before .before .before .signed .ensures) in
+    let lower = i64-is (search sfits-of) (c .before .before .signed2 .ensures) in
+    let x = i64-is {z = a .point .x} (search sfits-of) refl in
+    let y = i64-is {z = a .point .y} (search sfits-of) refl in
+    let d = i64-is (search sfits-of) (c .before .signed3 .ensures) in
     λ k. kind k ∷ number k ∷ upper k ∷ lower k ∷ x k ∷ y k ∷ d k ∷ []
 
 pub of-nearest-spec : {M : Type 1} → statement M

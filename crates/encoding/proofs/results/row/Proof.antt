@@ -8,7 +8,7 @@ use lib.ListN.{getD}
 use Rattle.hausdorff.specs.declared.WorstSoFar.{WorstSoFar}
 use Rattle.hausdorff.specs.declared.WorstSoFar.the-variants.{None, Worst}
 use Rattle.encoding.specs.Results.{ofWorst}
-use Rattle.encoding.proofs.Signed.{kept, element}
+use Rattle.encoding.proofs.Signed.{i64-is, element}
 use Rattle.encoding.proofs.results.row.Statement.{statement}
 use Rattle.encoding.proofs.results.row.Tie as tie
 
@@ -22,11 +22,11 @@ returns : tie.Need-returns
 returns c =
     let w = c .before .before .before .before .before .before .before .before .before .of-worst .ensures in
     let args = c .before .before .before .before .before .before .before .before .before .before .args in
-    let kind = kept {z = args .kind} (search sfits-of) refl in
-    let steps = kept {z = args .steps} (search sfits-of) refl in
-    let support-a = kept {z = args .support-a} (search sfits-of) refl in
-    let support-b = kept {z = args .support-b} (search sfits-of) refl in
-    let clearance = kept {z = args .clearance} (search sfits-of) refl in
+    let kind = i64-is {z = args .kind} (search sfits-of) refl in
+    let steps = i64-is {z = args .steps} (search sfits-of) refl in
+    let support-a = i64-is {z = args .support-a} (search sfits-of) refl in
+    let support-b = i64-is {z = args .support-b} (search sfits-of) refl in
+    let clearance = i64-is {z = args .clearance} (search sfits-of) refl in
     (λ k. kind k ∷ steps k ∷ support-a k ∷ support-b k
     ∷ element w 0 (search sfits-of) k
     ∷ element w 1 (search sfits-of) k

@@ -6,7 +6,7 @@ use Rattle.encoding.proofs.status.refused.Tie as tie
 returns : tie.Need-returns
 returns c = λ k. record {
   code = c .before .before .before .before .args .refusal .number;
-  side = c .before .before .before .side-number .ensures k;
+  side = c .before .before .before .refused-side-code .ensures k;
   places = c .before .before .place-count .ensures k;
   first = c .before .first-place .ensures k;
   second = c .second-place .ensures k;

@@ -1,12 +1,11 @@
 -- `fit_text::parsing::numbers` reads the numbers one after the other.
 use borrow.Author.Needs.{needs, sfits-of}
-use mathlib.Core.Path.{sym, ap, _∙_}
+use mathlib.Core.Path.{sym, _∙_}
 use native.Mathlib.Omega.{arith}
 use Prim.Native.Nat.{_-_}
 use mir.Facts.{toZ-ofZ}
 use mir.Syntax.{w32}
 use mir.Val.{SFits}
-use Rattle.text.specs.First.{asFirst}
 use Rattle.fit_text.proofs.InputLaws.{Read, none-read, one-read, all-read, not-read}
 use Rattle.fit_text.proofs.parsing.numbers.Statement.{statement}
 use Rattle.fit_text.proofs.parsing.numbers.Tie as tie
@@ -25,7 +24,7 @@ same-length c = c .before .before .before .before .loop .inv .long
 
 returns : tie.Need-returns Inv-loop μ-loop
 returns c =
-    let first = sym (c .before .before .next-number .ensures) ∙ ap (asFirst _) (c .enum-told .given .1) in
+    let first = sym (c .before .before .next-number .ensures .0) ∙ c .enum-told .given .1 in
     (omega arith, not-read (c .before .before .before .before .loop .inv) (omega arith) first)
 
 mul-value : tie.Need-mul-value Inv-loop μ-loop
@@ -43,9 +42,10 @@ add-i c = omega (arith, c .before .before .before .before .before .before .befor
 
 loop-again : tie.Need-loop-again Inv-loop μ-loop
 loop-again c =
-    let z-fits : SFits w32 (c .before .value .given .0 .0) = search sfits-of in
-    let first = sym (c .before .before .before .next-number .ensures) ∙ ap (asFirst _) (c .before .value .given .1) in
-    rw (toZ-ofZ z-fits) (one-read (c .before .before .before .before .before .loop .inv) (omega arith) _ first)
+    let z-fits : SFits w32 (c .before .number .given .0 .0) = search sfits-of in
+    let (number, rest) = c .before .before .before .next-number .ensures in
+    let first = sym number ∙ c .before .number .given .1 in
+    rw (toZ-ofZ z-fits) (one-read (c .before .before .before .before .before .loop .inv) (omega arith) _ first rest)
 
 same-length-2 : tie.Need-same-length-2 Inv-loop μ-loop
 same-length-2 c = c .before .loop .inv .long

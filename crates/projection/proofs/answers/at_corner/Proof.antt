@@ -2,7 +2,7 @@
 use borrow.Author.Needs.{needs}
 use Rattle.plane.specs.Range.{Span, reach}
 use Rattle.plane.proofs.Range.{span-difference}
-use Rattle.nearest.specs.declared.Feature.the-variants.{Corner as AtCorner}
+use Rattle.nearest.specs.declared.Feature.the-variants as Feature
 use Rattle.projection.proofs.Sizes.{length-cast, length-exact}
 use Rattle.projection.proofs.answers.at_corner.Statement.{statement}
 use Rattle.projection.proofs.answers.at_corner.Tie as tie
@@ -17,7 +17,7 @@ returns c =
     let reached : Span reach (c .before .before .difference .result) = search span-difference in
     let size = rw (c .before .before .difference .ensures) at (length-exact (c .before .squared-length .ensures) reached) in
     λ k. record {
-      feature = AtCorner (c .before .before .before .args .i);
+      feature = Feature.Corner (c .before .before .before .args .i);
       gap = record { upper = size k; lower = 1 };
       point = c .whole .ensures k;
     }

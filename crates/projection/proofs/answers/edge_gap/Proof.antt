@@ -5,10 +5,10 @@ use Rattle.projection.proofs.answers.edge_gap.Statement.{statement}
 use Rattle.projection.proofs.answers.edge_gap.Tie as tie
 
 mul-t5 : tie.Need-mul-t5
-mul-t5 c = let pre = c .before .before .pre in side-square-fits (c .before .side .ensures) (pre .0) (pre .1)
+mul-t5 c = let pre = c .before .before .pre in side-square-fits (c .before .cross .ensures) (pre .0) (pre .1)
 
 cast-t6 : tie.Need-cast-t6
-cast-t6 c = let pre = c .before .before .pre in square-cast (c .before .side .ensures) (pre .0) (pre .1)
+cast-t6 c = let pre = c .before .before .pre in square-cast (c .before .cross .ensures) (pre .0) (pre .1)
 
 cast-t7 : tie.Need-cast-t7
 cast-t7 c = length-cast (c .squared-length .ensures) (c .before .before .pre .0)
@@ -17,7 +17,7 @@ returns : tie.Need-returns
 returns c =
     let pre = c .before .before .pre in
     λ k. record {
-      upper = square-exact (c .before .side .ensures) (pre .0) (pre .1) k;
+      upper = square-exact (c .before .cross .ensures) (pre .0) (pre .1) k;
       lower = length-exact (c .squared-length .ensures) (pre .0) k;
     }
 

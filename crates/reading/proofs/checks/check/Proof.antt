@@ -1,61 +1,42 @@
--- `reading::checks::check` makes the checks in order.
+-- `reading::checks::check` makes the checks in order: those of the length, and then those of the corners.
 use borrow.Author.Needs.{needs}
-use mathlib.Core.Path.{sym, _∙_}
+use mathlib.Core.List.{List}
+use mathlib.Core.Path.{_≡_, sym, _∙_}
+use lib.IntN.{ℤ}
+use Rattle.outline.specs.declared.Refusal.{Refusal}
+use Rattle.outline.specs.declared.RefusedSide.{RefusedSide}
+use Rattle.outline.specs.declared.Verdict.{Verdict}
+use Rattle.outline.specs.declared.Verdict.the-variants.{Taken, Refused}
+use Rattle.outline.specs.Checks.{first}
+use Rattle.outline.specs.Convex.{AllInRange}
 use Rattle.outline.specs.Corners.{corners}
-use Rattle.outline.specs.Reading.{repeated, check}
-use Rattle.outline.proofs.ChecksLaws.{orElse-stops, orElse-goes-on}
-use Rattle.outline.proofs.Stages.{outOfRange-passed}
+use Rattle.outline.specs.Reading.{lengthChecks, checkRange, cornerChecks, check}
+use Rattle.outline.proofs.ChecksLaws.{first-stops, first-goes-on, first-last, append-stops, append-goes-on}
+use Rattle.outline.proofs.Acceptance.{range-taken}
 use Rattle.reading.proofs.checks.check.Statement.{statement}
 use Rattle.reading.proofs.checks.check.Tie as tie
 
-returns : tie.Need-returns
-unfolding check
-returns c =
-    sym (orElse-stops _ (orElse-stops _ (orElse-stops _ (sym (c .before .before .before .check-count .ensures) ∙ c .before .f .given .1))))
+module _ (whose : RefusedSide) (s : List ℤ) {u : Verdict} where
+  by-length : {r : Refusal} → u ≡ first (lengthChecks whose s) → u ≡ Refused r → Refused r ≡ check whose s
+  unfolding check
+  by-length is refuses = sym (append-stops (lengthChecks whose s) (cornerChecks whose (corners s)) (sym is ∙ refuses))
 
-returns-2 : tie.Need-returns-2
-unfolding check
-returns-2 c =
-    let count = sym (c .before .before .before .before .before .before .check-count .ensures)
-    ∙ c .before .before .before .before .enum-told .given .1 in
-    let range = sym (c .before .before .before .check-range .ensures) ∙ c .before .f2 .given .1 in
-    sym (orElse-stops _ (orElse-stops _ (orElse-goes-on count range)))
+  by-corners : {v : Verdict} → u ≡ first (lengthChecks whose s) → u ≡ Taken
+      → v ≡ first (cornerChecks whose (corners s)) → v ≡ check whose s
+  unfolding check
+  by-corners is takes rest =
+      sym (append-goes-on (lengthChecks whose s) (cornerChecks whose (corners s)) (sym is ∙ takes) ∙ sym rest)
 
-returns-3 : tie.Need-returns-3
-unfolding check
-returns-3 c =
-    let count = sym (c .before .before .before .before .before .before .before .before .before .check-count .ensures)
-    ∙ c .before .before .before .before .before .before .before .enum-told .given .1 in
-    let range = sym (c .before .before .before .before .before .before .check-range .ensures)
-    ∙ c .before .before .before .before .enum-told2 .given .1 in
-    sym (orElse-stops _
-    (orElse-goes-on (orElse-goes-on count range) (sym (c .before .before .before .check-repeated .ensures) ∙ c .before .f3 .given .1)))
+  in-range : u ≡ checkRange whose (corners s) → u ≡ Taken → AllInRange (corners s)
+  in-range is takes = range-taken (corners s) whose .0 (sym is ∙ takes)
 
-check-convex-requires : tie.Need-check-convex-requires
-check-convex-requires c κs =
-    outOfRange-passed (corners _)
-    (sym (c .before .before .before .before .before .check-range .ensures) ∙ c .before .before .before .enum-told2 .given .1)
-
-returns-4 : tie.Need-returns-4
-unfolding check
-returns-4 c =
-    let count = sym (c .before .before .before .before .before .before .before .before .before .check-count .ensures)
-    ∙ c .before .before .before .before .before .before .before .enum-told .given .1 in
-    let range = sym (c .before .before .before .before .before .before .check-range .ensures)
-    ∙ c .before .before .before .before .enum-told2 .given .1 in
-    let repeated = sym (c .before .before .before .check-repeated .ensures) ∙ c .before .enum-told3 .given .1 in
-    sym (orElse-goes-on (orElse-goes-on (orElse-goes-on count range) repeated) (sym (c .check-convex .ensures)))
+ruleset in-order = (by-length, by-corners, first-stops, first-goes-on, first-last)
 
 pub check-spec : {M : Type 1} → statement M
 check-spec =
     tie.close
     (tie.spec
-    (search needs) (search needs)
-    returns
-    (search needs) (search needs) (search needs)
-    returns-2
-    (search needs) (search needs) (search needs)
-    returns-3
-    (search needs)
-    check-convex-requires
-    returns-4)
+    (search needs) (search needs) (λ c. search in-order)
+    (search needs) (search needs) (search needs) (λ c. search in-order)
+    (search needs) (search needs) (search needs) (λ c. search in-order)
+    (search needs) (λ c κs. search in-range) (λ c. search in-order))

@@ -1,40 +1,28 @@
 -- `reading::checks::check_range` tests the corners in order.
 use borrow.Author.Needs.{needs}
-use mathlib.Core.Bool.{not}
+use mathlib.Core.Path.{refl}
 use native.Mathlib.Omega.{arith}
 use Prim.Native.Nat.{_-_}
-use lib.ListN.{length}
-use Rattle.plane.specs.Range.{inRange}
-use Rattle.outline.specs.declared.Fault.the-variants.{OutOfRange}
-use Rattle.outline.specs.Corners.{corners, corner}
-use Rattle.outline.specs.Reading.{outOfRange}
-use Rattle.outline.proofs.ChecksLaws.{Testing, test-start, test-on, test-found, test-none}
+use Rattle.outline.specs.declared.Place.the-variants.{At}
+use Rattle.outline.specs.Conditions.{outOfRange}
+use Rattle.outline.specs.Corners.{corners}
+use Rattle.outline.specs.Reading.{isOutOfRange, checkRange}
+use Rattle.outline.specs.Refusal.{refusal}
+use Rattle.outline.proofs.ChecksLaws.{Testing, test-start, testing}
 use Rattle.reading.proofs.checks.check_range.Statement.{statement}
 use Rattle.reading.proofs.checks.check_range.Tie as tie
 
 abbrev Inv-loop : tie.InvT-loop
-Inv-loop s n i₀ i = Testing (λ j. not (inRange (corner (corners s) j))) OutOfRange (length (corners s)) i
+Inv-loop s whose n i₀ i =
+    Testing (isOutOfRange (corners s)) (λ j. refusal (outOfRange whose (corners s)) (At j))
+    (checkRange whose (corners s)) n i
 
 abbrev μ-loop : tie.MeasureT-loop
-μ-loop s n i₀ i = n - i
+μ-loop s whose n i₀ i = n - i
 
 loop-holds : tie.Need-loop-holds Inv-loop μ-loop
-loop-holds c = test-start _ _ _
-
-returns : tie.Need-returns Inv-loop μ-loop
-unfolding outOfRange
-returns c =
-    test-found (c .before .before .before .before .loop .inv) (omega arith)
-    (rw (c .before .in-range .ensures, c .before .before .corner .ensures) at (c .if1 .taken))
-
-loop-again : tie.Need-loop-again Inv-loop μ-loop
-loop-again c =
-    test-on (c .before .before .before .before .loop .inv) (omega arith)
-    (rw (c .before .in-range .ensures, c .before .before .corner .ensures) at (c .if1 .left))
-
-returns-2 : tie.Need-returns-2 Inv-loop μ-loop
-unfolding outOfRange
-returns-2 c = test-none (c .before .loop .inv) (omega arith)
+unfolding checkRange
+loop-holds c = test-start _ (c .count .ensures) refl
 
 pub check-range-spec : {M : Type 1} → statement M
 check-range-spec =
@@ -42,8 +30,6 @@ check-range-spec =
     (tie.spec Inv-loop μ-loop
     (search needs)
     loop-holds
-    (omega arith) (search needs)
-    returns
-    (omega arith) (omega arith)
-    loop-again
-    returns-2)
+    (omega arith) (search needs) (λ c. search testing)
+    (omega arith) (omega arith) (λ c. search testing)
+    (λ c. search testing))

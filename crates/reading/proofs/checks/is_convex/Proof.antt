@@ -13,8 +13,9 @@ use Rattle.plane.specs.Vector.{_⇀_}
 use Rattle.plane.proofs.Range.{span-difference}
 use Rattle.outline.specs.Convex.{AllInRange}
 use Rattle.outline.specs.Corners.{corners, corner}
-use Rattle.outline.specs.Turns.{all, keepsLeft, keepsLeftAt, isConvex}
-use Rattle.outline.proofs.TurnsLaws.{Passing, pass-start, pass-on, pass-stop, pass-all}
+use Rattle.outline.specs.Turns.{keepsLeft, keepsLeftAt, isConvex}
+use Rattle.lists.specs.Fold.{fold}
+use Rattle.lists.proofs.FoldLaws.{Passing, pass-start, pass-on, pass-stop, pass-all}
 use Rattle.reading.proofs.checks.is_convex.Statement.{statement}
 use Rattle.reading.proofs.checks.is_convex.Tie as tie
 
@@ -34,7 +35,7 @@ known : (cs : List Corner) (i : ℕ) {p : Corner} → AllInRange cs → p ≡ co
 known cs i all is below = rw is (all i below)
 
 returns : tie.Need-returns Inv-loop μ-loop
-unfolding isConvex all
+unfolding isConvex fold
 returns c = let none : length (corners (c .before .before .args .s .now)) - 2 ≡ 0 = omega arith in rw none
 
 loop-holds : tie.Need-loop-holds Inv-loop μ-loop

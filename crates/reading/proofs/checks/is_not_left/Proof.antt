@@ -1,14 +1,10 @@
 -- `reading::checks::is_not_left` leaves the edge's two ends out and then goes by the side number's sign.
-use borrow.Author.Needs.{needs, sfits-of}
-use mir.Facts.{toZ-ofZ}
-use mir.Val.{SFits}
+use borrow.Author.Needs.{needs}
 use borrow.Author.Tests.{eq-eqb, ne-eqb}
 use mathlib.Core.Bool.{Bool, false, not, _&&_}
 use mathlib.Core.Path.{_≡_}
 use Prim.Native.Nat.{ℕ}
 use lib.Dec.{eqb}
-use mir.Syntax.{w64}
-use Rattle.plane.proofs.Range.{span-difference}
 use Rattle.reading.proofs.checks.is_not_left.Statement.{statement}
 use Rattle.reading.proofs.checks.is_not_left.Tie as tie
 
@@ -31,9 +27,8 @@ returns-2 c = at-end _ _ _ _ (c .before .before .if1 .left) (c .if2 .taken)
 
 returns-3 : tie.Need-returns-3
 returns-3 c =
-    let side-fits : SFits w64 (c .side .result) = search sfits-of in
-    rw (toZ-ofZ side-fits, c .side .ensures, c .before .difference .ensures)
-    (elsewhere _ _ _ _ (c .before .before .before .before .if1 .left) (c .before .before .if2 .left))
+    rw (c .is-left .ensures)
+    (elsewhere _ _ _ _ (c .before .before .before .if1 .left) (c .before .if2 .left))
 
 pub is-not-left-spec : {M : Type 1} → statement M
-is-not-left-spec = tie.close (tie.spec returns returns-2 (search needs) (λ c κs. search span-difference) returns-3)
+is-not-left-spec = tie.close (tie.spec returns returns-2 (search needs) returns-3)

@@ -8,10 +8,15 @@ use native.Mathlib.Nat.{pow-zero, pow-le-pow-right}
 use native.Mathlib.Numerals.{add-one}
 use native.Mathlib.Omega.{arith}
 use Prim.Native.Nat.{ℕ, _+_, _-_, _^_, _≤_, _<_}
+use lib.IntN.{pos}
 use lib.ListN.{length, getD, drop, drop-of-length-le}
-use Rattle.text.specs.declared.input.Digits.the-variants.{Value, Invalid as NoValue}
+use mir.Facts.{toZ-ofZ}
+use mir.Syntax.{w32}
+use mir.Val.{SFits, toZ}
+use Rattle.text.specs.declared.input.Parsed.the-variants.{Number, Invalid}
 use Rattle.text.specs.Number.{isDigit, allDigits, withDigit, valueFrom, natural}
-use Rattle.text.proofs.NumberLaws.{all-digits-next, value-next, with-digit-below, natural-empty, natural-long, natural-is}
+use Rattle.text.proofs.NumberLaws.{all-digits-next, value-next, with-digit-below}
+use Rattle.text.proofs.NumberLaws.{natural-empty, natural-long, natural-is}
 use Rattle.text.proofs.input.natural.Statement.{statement}
 use Rattle.text.proofs.input.natural.Tie as tie
 
@@ -21,20 +26,25 @@ record Passed (w : List ℕ) (v i : ℕ) : Type 0 where
   short : length w ≤ 5
   most : i ≤ length w
   below : v < 10 ^ i
-  gives : natural w ≡ cond (allDigits (drop i w)) (Value (valueFrom v (drop i w))) NoValue
+  gives : natural w ≡ cond (allDigits (drop i w)) (Number (pos (valueFrom v (drop i w)))) Invalid
 
 none-passed : (w : List ℕ) → 0 < length w → length w ≤ 5 → Passed w 0 0
 none-passed w some short =
-    record { some = some; short = short; most = omega arith; below = omega (arith, pow-zero 10); gives = natural-is w some short }
+    let below : 0 < 10 ^ 0 = omega (arith, pow-zero 10) in
+    record { some = some; short = short; most = omega arith; below = below; gives = natural-is w some short }
 
 module _ {w : List ℕ} {v i : ℕ} (p : Passed w v i) where
+  digits-below : (k : ℕ) → i ≤ k → v < 10 ^ k
+  digits-below k most = omega (arith, p .below, pow-le-pow-right {n = 10} (omega arith) most)
+
   -- with four digits at the most, one more fits
   four-digits : i < length w → v < 10000
-  four-digits below =
-      let most : 10 ^ i ≤ 10 ^ 4 = pow-le-pow-right (omega arith) {i = i} {j = 4} (omega (arith, p .short)) in
-      omega (arith, p .below)
+  four-digits below = digits-below 4 (omega (arith, p .short))
 
-  stops : i < length w → isDigit (getD w i 0) ≡ false → NoValue ≡ natural w
+  five-fit : SFits w32 (pos v)
+  five-fit = record { sfits = omega (arith, digits-below 5 (omega (arith, p .most, p .short))) }
+
+  stops : i < length w → isDigit (getD w i 0) ≡ false → Invalid ≡ natural w
   stops below other = rw (p .gives, all-digits-next w i below, other)
 
   goes-on : i < length w → isDigit (getD w i 0) ≡ true → Passed w (withDigit v (getD w i 0)) (i + 1)
@@ -46,9 +56,11 @@ module _ {w : List ℕ} {v i : ℕ} (p : Passed w v i) where
     gives = rw (p .gives, all-digits-next w i below, digit, value-next v w i below);
   }
 
-  all-passed : length w ≤ i → Value v ≡ natural w
+  all-passed : length w ≤ i → Number (toZ w32 v) ≡ natural w
   unfolding allDigits valueFrom
-  all-passed past = rw (p .gives, drop-of-length-le w past)
+  all-passed past =
+      let exact : toZ w32 v ≡ pos v = toZ-ofZ five-fit in
+      rw (exact, p .gives, drop-of-length-le w past)
 
 abbrev Inv-loop : tie.InvT-loop
 Inv-loop w n value₀ i₀ value i = Passed w value i
@@ -67,7 +79,8 @@ loop-holds c = none-passed (c .before .before .before .args .w .now) (omega arit
 
 returns-3 : tie.Need-returns-3 Inv-loop μ-loop
 returns-3 c =
-    stops (c .before .before .before .before .loop .inv) (omega arith) (sym (c .before .is-digit .ensures) ∙ not-true _ (c .if3 .taken))
+    stops (c .before .before .before .before .loop .inv) (omega arith)
+    (sym (c .before .is-digit .ensures) ∙ not-true _ (c .if3 .taken))
 
 with-digit-requires : tie.Need-with-digit-requires Inv-loop μ-loop
 with-digit-requires c κs = (
@@ -79,6 +92,9 @@ loop-again : tie.Need-loop-again Inv-loop μ-loop
 loop-again c =
     rw (c .with-digit .ensures) (goes-on (c .before .before .before .before .before .loop .inv) (omega arith)
     (sym (c .before .before .is-digit .ensures) ∙ not-false _ (c .before .if3 .left)))
+
+cast-t11 : tie.Need-cast-t11 Inv-loop μ-loop
+cast-t11 c = five-fit (c .before .loop .inv)
 
 returns-4 : tie.Need-returns-4 Inv-loop μ-loop
 returns-4 c = all-passed (c .before .loop .inv) (omega arith)
@@ -95,4 +111,5 @@ natural-spec =
     with-digit-requires
     (omega arith) (omega arith)
     loop-again
+    cast-t11
     returns-4)

@@ -1,11 +1,11 @@
 -- `Text::empty` holds no byte.
 use mathlib.Core.Path.{refl}
-use Rattle.text.specs.Output.{held}
+use Rattle.text.specs.Output.{textOf}
 use Rattle.text.proofs.output.Text.empty.Statement.{statement}
 use Rattle.text.proofs.output.Text.empty.Tie as tie
 
 returns : tie.Need-returns
-unfolding held
+unfolding textOf
 returns c = refl
 
 pub empty-spec : {M : Type 1} → statement M

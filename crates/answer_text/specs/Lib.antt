@@ -1,0 +1,2 @@
+-- The parts of an answer as text.
+pub mod Parts
