@@ -6,9 +6,10 @@
 #include <stdlib.h>
 #include "clock.h"
 #include "plain.h"
+#include "ravinebowl.h"
 
-uint64_t timing_compare(const int32_t *a, size_t n, const int32_t *b, size_t m, uint32_t turns);
-uint64_t timing_read(const int32_t *a, size_t n, const int32_t *b, size_t m, uint32_t turns);
+/* How many corners an outline has, or 0 where it is refused. */
+size_t timing_read(const int32_t *s, size_t length);
 
 enum { RUNS = 31, MOST = 256 };
 
@@ -19,10 +20,27 @@ typedef struct {
 
 static uint64_t greater(uint64_t a, uint64_t b) { return a < b ? b : a; }
 
-/* Each way, some times over. A comparison answers the upper number of its gap, and all turns together the greatest. */
-static uint64_t call(const Pair *p, uint32_t turns) { return timing_compare(&p->a[0].x, 2 * p->n, &p->b[0].x, 2 * p->n, turns); }
+/* Each way, some times over. A comparison gives the upper number of its gap, reading how many corners both have, and all
+   turns together the greatest. */
+static uint64_t call(const Pair *p, uint32_t turns) {
+    uint64_t greatest = 0;
+    for (uint32_t i = 0; i < turns; i++) {
+        int64_t result[RAVINEBOWL_COMPARE_LENGTH];
+        struct ravinebowl_status status = ravinebowl_compare(&p->a[0].x, 2 * p->n, &p->b[0].x, 2 * p->n,
+                                                             RAVINEBOWL_ENOUGH_STEPS, result, RAVINEBOWL_COMPARE_LENGTH);
+        if (status.code == RAVINEBOWL_ANSWERED) greatest = greater(greatest, result[RAVINEBOWL_COMPARE_GAP_UPPER]);
+    }
+    return greatest;
+}
 
-static uint64_t reading(const Pair *p, uint32_t turns) { return timing_read(&p->a[0].x, 2 * p->n, &p->b[0].x, 2 * p->n, turns); }
+static uint64_t reading(const Pair *p, uint32_t turns) {
+    uint64_t greatest = 0;
+    for (uint32_t i = 0; i < turns; i++) {
+        size_t a = timing_read(&p->a[0].x, 2 * p->n), b = timing_read(&p->b[0].x, 2 * p->n);
+        greatest = greater(greatest, a + b);
+    }
+    return greatest;
+}
 
 static uint64_t plain(const Pair *p, uint32_t turns) {
     uint64_t greatest = 0;
@@ -76,7 +94,7 @@ static void ellipse(Corner *out, size_t n, double rx, double ry, double x, doubl
 static void time_pair(const char *name, const Pair *p) {
     double t[WAYS];
     uint64_t answer = call(p, 1);
-    if (answer == 0 || answer != plain(p, 1) || answer != exhaustive(p, 1)) {
+    if (answer == 0 || answer != plain(p, 1) || answer != exhaustive(p, 1) || reading(p, 1) != 2 * p->n) {
         fprintf(stderr, "%s, 2x%zu: an outline is refused, or the answers differ\n", name, p->n);
         exit(1);
     }

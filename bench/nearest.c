@@ -6,11 +6,29 @@
 #include <stdio.h>
 #include <stdlib.h>
 #include "clock.h"
-
-uint64_t timing_call(const int32_t *s, size_t n, const int32_t *points, size_t m);
-uint64_t timing_core(const int32_t *s, size_t n, const int32_t *points, size_t m);
+#include "ravinebowl.h"
 
 enum { POINTS = 1000, RUNS = 31 };
+
+/* The nearest point for each of some points. Both ways give the greatest digest of an answer, or 0 where the outline is refused. */
+uint64_t timing_core(const int32_t *s, size_t n, const int32_t *points, size_t m);
+
+/* As `digest` of crates/timing: a number that the gap and the nearest point bear on. */
+static int64_t digest(const int64_t *result) {
+    if (result[RAVINEBOWL_NEAREST_X] < result[RAVINEBOWL_NEAREST_Y]) return result[RAVINEBOWL_NEAREST_GAP_UPPER];
+    return result[RAVINEBOWL_NEAREST_GAP_LOWER];
+}
+
+static uint64_t call(const int32_t *s, size_t n, const int32_t *points, size_t m) {
+    int64_t greatest = 0;
+    for (size_t i = 0; i + 1 < m; i += 2) {
+        int64_t result[RAVINEBOWL_NEAREST_LENGTH];
+        struct ravinebowl_status status =
+            ravinebowl_nearest_point(points[i], points[i + 1], s, n, result, RAVINEBOWL_NEAREST_LENGTH);
+        if (status.code == RAVINEBOWL_ANSWERED && digest(result) > greatest) greatest = digest(result);
+    }
+    return (uint64_t)greatest;
+}
 
 /* Nanoseconds for each point. */
 static double median(uint64_t (*f)(const int32_t *, size_t, const int32_t *, size_t), const int32_t *s, size_t n, const int32_t *points) {
@@ -45,12 +63,13 @@ int main(void) {
     for (int i = 0; i < 3; i++) {
         int n = counts[i];
         on_circle(s, n, 8000, 8000, 1);
-        if (timing_core(s, 2 * n, outside, 2 * POINTS) == 0 || timing_call(s, 2 * n, outside, 2 * POINTS) == 0) {
-            fputs("the outline is refused\n", stderr);
+        uint64_t answer = timing_core(s, 2 * n, outside, 2 * POINTS);
+        if (answer == 0 || answer != call(s, 2 * n, outside, 2 * POINTS)) {
+            fputs("the outline is refused, or the answers differ\n", stderr);
             return 1;
         }
         printf("%7d  %11.0f  %12.0f  %11.0f  %12.0f\n", n, median(timing_core, s, 2 * n, within), median(timing_core, s, 2 * n, outside),
-               median(timing_call, s, 2 * n, within), median(timing_call, s, 2 * n, outside));
+               median(call, s, 2 * n, within), median(call, s, 2 * n, outside));
     }
     return 0;
 }

@@ -1,6 +1,8 @@
 /* Ravinebowl: the Hausdorff distance of two convex outlines, the nearest point of an outline, and removing a corner, in exact whole
  * numbers. The functions are those of crates/ravinebowl, which `rt staticlib ravinebowl` builds as target/staticlib/libravinebowl.a.
  *
+ * Units. Coordinates and the clearance are in whole millimetres; a gap, which is a squared distance, is in square millimetres.
+ *
  * Lists. A list is a pointer to its first number and the count of its numbers. An outline is a list of coordinates: x and y of
  * corner 0, then of corner 1, and so on, counterclockwise. Edge i runs from corner i to corner i + 1, the last edge back to corner 0.
  * An outline is accepted if it has 3 to 256 corners, every coordinate is from -16,000 to 16,000, and every corner other than an edge's
@@ -10,7 +12,7 @@
  *
  * What a caller must see to. A pointer must be aligned, and good for as many numbers as the count says; a list that is empty may have any
  * pointer. A list that is written (`result`, `out`) must not overlap another list of the same call. Lists that are only read may overlap or
- * be the same. Nothing else is asked: any numbers, counts and lengths are answered or refused.
+ * be the same. Nothing else is asked: any numbers, counts and lengths get an answer or a code.
  *
  * What the functions do. They keep no state and no pointer, allocate nothing, use some 16 KiB of stack at the most, and always return.
  * Threads may call them at the same time, as long as no list is written that another call reads or writes. A call that does not answer
@@ -42,9 +44,10 @@ enum ravinebowl_code {
     RAVINEBOWL_ODD_LENGTH = 1,           /* the list has an odd length */
     RAVINEBOWL_TOO_FEW_CORNERS = 2,      /* fewer than 3 corners; in removing a corner also: just 3 */
     RAVINEBOWL_TOO_MANY_CORNERS = 3,     /* more than 256 corners */
-    RAVINEBOWL_OUT_OF_RANGE = 4,         /* a coordinate is out of range; place: the first such corner */
-    RAVINEBOWL_REPEATED = 5,             /* a corner is equal to the following one; place: the first such corner */
-    RAVINEBOWL_NOT_LEFT = 6,             /* a corner is not strictly left of an edge; place: the lowest such edge, its lowest such corner */
+    RAVINEBOWL_OUT_OF_RANGE = 4,         /* a corner has a coordinate out of range; place: the lowest such corner */
+    RAVINEBOWL_REPEATED = 5,             /* a corner equals the one after it; after the last comes corner 0; place: the lowest such corner */
+    RAVINEBOWL_NOT_LEFT = 6,             /* a corner that is no end of an edge is not strictly left of it; place: the lowest edge that
+                                          * has such a corner, and its lowest such corner */
     RAVINEBOWL_POINT_OUT_OF_RANGE = 7,   /* the point is out of range */
     RAVINEBOWL_NO_SUCH_CORNER = 8,       /* no corner has that number */
     RAVINEBOWL_WRONG_LENGTH = 9,         /* the list to write is not exactly as long as what remains */
@@ -73,7 +76,7 @@ enum ravinebowl_comparison { RAVINEBOWL_DONE = 0, RAVINEBOWL_SPENT = 1 };
 enum ravinebowl_nearest_place {
     RAVINEBOWL_NEAREST_FEATURE = 0,        /* enum ravinebowl_feature */
     RAVINEBOWL_NEAREST_FEATURE_NUMBER = 1, /* the number of the corner or edge; -1 within */
-    RAVINEBOWL_NEAREST_GAP_UPPER = 2,      /* the gap, which is the squared distance: its upper number */
+    RAVINEBOWL_NEAREST_GAP_UPPER = 2,      /* the gap, which is the squared distance in square millimetres: its upper number */
     RAVINEBOWL_NEAREST_GAP_LOWER = 3,      /* and its lower number */
     RAVINEBOWL_NEAREST_X = 4,              /* the nearest point is at X / D and Y / D */
     RAVINEBOWL_NEAREST_Y = 5,
@@ -94,12 +97,13 @@ enum ravinebowl_compare_place {
     RAVINEBOWL_COMPARE_CORNER = 5,         /* the number of the corner */
     RAVINEBOWL_COMPARE_FEATURE = 6,        /* enum ravinebowl_feature: what is nearest to it in the other outline */
     RAVINEBOWL_COMPARE_FEATURE_NUMBER = 7, /* the number of that corner or edge; -1 within */
-    RAVINEBOWL_COMPARE_GAP_UPPER = 8,      /* the gap, which is the squared distance: its upper number */
+    RAVINEBOWL_COMPARE_GAP_UPPER = 8,      /* the gap, which is the squared distance in square millimetres: its upper number */
     RAVINEBOWL_COMPARE_GAP_LOWER = 9,      /* and its lower number */
     RAVINEBOWL_COMPARE_X = 10,             /* the nearest point is at X / D and Y / D */
     RAVINEBOWL_COMPARE_Y = 11,
     RAVINEBOWL_COMPARE_D = 12,
-    RAVINEBOWL_COMPARE_CLEARANCE = 13,     /* done: the largest whole number whose square is not above the gap; spent: -1 */
+    RAVINEBOWL_COMPARE_CLEARANCE = 13,     /* done: the largest whole number of millimetres whose square is not above the gap, so not above
+                                            * the distance, and below it by less than 1 mm; spent: -1 */
     RAVINEBOWL_COMPARE_LENGTH = 14
 };
 

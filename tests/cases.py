@@ -1,8 +1,10 @@
-"""Writes the input of the program `fit_cases`, and what `fit_reference.py` answers: crates/fit_cases/stdin and crates/fit_cases/stdout.
+"""Writes the inputs of `fit`, `fit_other`, `fit_long` and `fit_cases`, and what `fit_reference.py` answers: the files
+`stdin` and `stdout` of these crates.
 
-Run without arguments from anywhere; the files do not change. Each case is an input of the program fit, chosen by hand, and beside it stands
-what fit is to print, its lines joined by commas. The input has the cases one after another, each ended by a byte 255, which is in no case;
-the output has what fit prints for each.
+Run without arguments from anywhere; the files do not change. Each case is an input of the program fit, chosen by hand,
+and beside it stands what fit is to print, its lines joined by commas. The first three programs are fit on one case each.
+The input of `fit_cases` has its cases one after another, each ended by a byte 255, which is in no case; its output has
+what fit prints for each.
 """
 from pathlib import Path
 
@@ -11,7 +13,7 @@ from pairs import CLOCKWISE, LARGEST, LOWER, MOVED, SQUARE, STAR, STRAIGHT, TRIA
 
 END = b"\xff"
 
-# Document 01's example, and exactly what it prints.
+# The example of the specification, and exactly what it prints.
 EXAMPLE = b"4 0 0 4 0 4 4 0 4 3 0 0 4 0 0 4"
 EXAMPLE_PRINTED = b"""gap 256/32
 mm 2
@@ -34,7 +36,7 @@ RAISED = numbers([(x, y + 100) for x, y in PARABOLA])
 TURNED_OVER = numbers(opposite(PARABOLA))
 
 FEATURES = [
-    # Document 01's example and its worked fits of comparing; the points (6,6) and (12,9) as the worst corner of a triangle.
+    # The example and the others of comparing; the points (6,6) and (12,9) as the worst corner of a triangle.
     (text(SQUARE, TRIANGLE), SAME_AS_EXAMPLE),
     (text(SQUARE, MOVED), "gap 100/1, mm 10, from A 0, to corner 0 at 10/1 0/1, steps 8"),
     (text(SQUARE, SQUARE), "gap 0/1, mm 0, from A 0, to within at 0/1 0/1, steps 8"),
@@ -62,7 +64,7 @@ FEATURES = [
     (text([0, 0, 4, 0, 4, 4, 0, 5], SQUARE), "gap 1/1, mm 1, from A 3, to corner 3 at 0/1 4/1, steps 8"),
     (text([0, 0, 3, 0, 5, 2, 0, 4], [0, 0, 3, 0, 0, 4]), "gap 196/25, mm 2, from A 2, to edge 1 at 69/25 8/25, steps 7"),
     (text([0, 0, 3, 0, 3, 5, 0, 4], [0, 0, 3, 0, 0, 4]), "gap 225/25, mm 3, from A 2, to edge 1 at 15/25 80/25, steps 7"),
-    # Equal gaps: the lower number although it comes later in the turning order; 8/1 before 256/32, and after it.
+    # Equal gaps: the lower number although it comes later in the angular order; 8/1 before 256/32, and after it.
     (text([1, -1, 1, 1, -1, 1, -1, -1], [11, -1, 11, 1, 9, 1, 9, -1]), "gap 100/1, mm 10, from A 2, to corner 2 at 9/1 1/1, steps 8"),
     (text([-2, -2, 4, 0, 4, 4, 0, 4], TRIANGLE), "gap 8/1, mm 2, from A 0, to corner 0 at 0/1 0/1, steps 7"),
     (text([4, 4, 0, 4, -2, -2, 4, 0], TRIANGLE), "gap 256/32, mm 2, from A 0, to edge 1 at 64/32 64/32, steps 7"),
@@ -175,18 +177,29 @@ UNREADABLE = [
     EXAMPLE.ljust(LARGEST_INPUT + 1), EXAMPLE.rjust(LARGEST_INPUT + 1), b"257 ".ljust(LARGEST_INPUT + 1), b"4" * LARGEST_INPUT,
 ]
 
+# The one case of each program that is fit itself: the example; one whose answer differs in every line; one of which the
+# first 16,384 bytes alone would be answered.
+SINGLE = {
+    "fit": (EXAMPLE, SAME_AS_EXAMPLE),
+    "fit_other": (b"4\n-9 -20\n-5 -20\n-5 -16\n-9 -16\n5\n7 -31\n12 5\n-2 9\n-30 8\n-40 -3\n",
+                  "gap 1130/1, mm 33, from B 4, to corner 3 at -9/1 -16/1, steps 9"),
+    "fit_long": (EXAMPLE.rjust(LARGEST_INPUT) + b"\n", "unreadable"),
+}
+
 CASES = FEATURES + LAYOUTS + REFUSED + [(case, "unreadable") for case in UNREADABLE]
 
 
-def kind(printed):
+def kind(said):
     """A printed text by its words alone: the side and the feature of a gap, the side and the number of a refusal."""
-    words = printed.split()
+    words = said.split()
     return (words[5], words[8]) if words[0] == "gap" else tuple(words[:3])
 
 
 def check_coverage():
     """The cases have what they are to have."""
     assert fit(EXAMPLE) == EXAMPLE_PRINTED
+    assert not set(fit(SINGLE["fit_other"][0]).splitlines()) & set(EXAMPLE_PRINTED.splitlines())
+    assert fit(SINGLE["fit_long"][0][:LARGEST_INPUT]) == EXAMPLE_PRINTED
     inputs = [case for case, _ in CASES]
     assert len(set(inputs)) == len(inputs) and not any(END in case for case in inputs)
     assert {len(case) for case in inputs} >= {0, LARGEST_INPUT, LARGEST_INPUT + 1}
@@ -195,15 +208,25 @@ def check_coverage():
     assert {kind(said) for _, said in CASES} == gaps | refusals | {("unreadable",)}
 
 
+def printed(case, said):
+    """What fit prints for a case, which is what is said of it."""
+    lines = fit(case)
+    assert lines.decode() == said.replace(", ", "\n") + "\n", (case[:200], said, lines)
+    return lines
+
+
+def store(name, stdin, stdout):
+    crate = Path(__file__).resolve().parent.parent / "crates" / name
+    crate.mkdir(exist_ok=True)
+    (crate / "stdin").write_bytes(stdin)
+    (crate / "stdout").write_bytes(stdout)
+
+
 def main():
     check_coverage()
-    printed = [fit(case) for case, _ in CASES]
-    for (case, said), lines in zip(CASES, printed):
-        assert lines.decode() == said.replace(", ", "\n") + "\n", (case[:200], said, lines)
-    crate = Path(__file__).resolve().parent.parent / "crates" / "fit_cases"
-    crate.mkdir(exist_ok=True)
-    (crate / "stdin").write_bytes(b"".join(case + END for case, _ in CASES))
-    (crate / "stdout").write_bytes(b"".join(printed))
+    for name, (case, said) in SINGLE.items():
+        store(name, case, printed(case, said))
+    store("fit_cases", b"".join(case + END for case, _ in CASES), b"".join(printed(*case) for case in CASES))
 
 
 if __name__ == "__main__":

@@ -226,7 +226,7 @@ STAR = [0, 3, -2, -3, 3, 1, -3, 1, 2, -3]
 LARGEST = [-16000, -16000, 16000, -16000, 16000, 16000, -16000, 16000]
 
 
-# Document 01's own values.
+# The values of the specification's examples.
 STATED = [
     (SQUARE, TRIANGLE, 512, "done 7 A 2 edge 1 256/32 64/32 64/32 2"),
     (SQUARE, TRIANGLE, 0, "spent 0 0 0 none"),
@@ -242,7 +242,7 @@ STATED = [
 
 
 def worked():
-    """Document 01's worked fits, and refusals."""
+    """The examples of the specification, and refusals."""
     yield SQUARE, TRIANGLE, list(range(10)) + [512, LARGEST_ALLOWANCE]
     yield TRIANGLE, SQUARE, list(range(10))
     yield SQUARE, MOVED, list(range(11))

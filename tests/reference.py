@@ -1,4 +1,4 @@
-"""Comparing two outlines, from document 01 alone: whole numbers only, every corner against every edge.
+"""Comparing two outlines, from the specification alone: whole numbers only, every corner against every edge.
 
 Written apart from the proved code, for comparison with it. `compare(a, b, allowance)` takes two lists of numbers and gives the text that
 the program `pairs` prints for them:
@@ -87,7 +87,7 @@ def is_within(v, piece):
 
 
 def nearest(v, piece):
-    """The trial for one corner: every corner and every edge of the other piece."""
+    """The exhaustive search for one corner: every corner and every edge of the other piece."""
     if is_within(v, piece):
         return Nearest("within", Fraction(0, 1), v[0], v[1], 1)
     tried = []
@@ -120,7 +120,7 @@ def half(d):
     return 0 if d[1] > 0 or (d[1] == 0 and d[0] > 0) else 1
 
 
-def turning_order(pieces):
+def angular_order(pieces):
     """All edges of A (0) and B (1) as (side, number), by direction; at equal direction A's edge first."""
 
     def later(one, two):
@@ -143,14 +143,14 @@ def lies_on(point, p, q):
     return on_line and 0 <= dot(from_p, run) <= lower * dot(run, run)
 
 
-def counts(near, piece, touch):
-    """Not within, and the nearest point is the corner in touch or lies on one of the two edges that meet there."""
+def counts(near, piece, support):
+    """Not within, and the nearest point is the support corner or lies on one of the two edges that meet there."""
     if near.feature == "within":
         return False
     point = (near.x, near.y, near.lower)
-    if (near.x, near.y) == (near.lower * piece[touch][0], near.lower * piece[touch][1]):
+    if (near.x, near.y) == (near.lower * piece[support][0], near.lower * piece[support][1]):
         return True
-    return lies_on(point, *edge(piece, touch - 1)) or lies_on(point, *edge(piece, touch))
+    return lies_on(point, *edge(piece, support - 1)) or lies_on(point, *edge(piece, support))
 
 
 def clearance(gap):
@@ -165,7 +165,7 @@ class Comparing:
 
     def __init__(self, a, b):
         self.pieces = (a, b)
-        self.order = turning_order(self.pieces)
+        self.order = angular_order(self.pieces)
         self.gaps = {}
 
     def nearest(self, s, i):
@@ -181,18 +181,18 @@ class Comparing:
         return two if g < h else one
 
     def sweep(self, steps):
-        """The corners in touch and the worst so far, as (side, corner) or None, after some steps."""
-        touch = [next(i for t, i in self.order if t == s) for s in (0, 1)]
+        """The support corners and the worst so far, as (side, corner) or None, after some steps."""
+        support = [next(i for t, i in self.order if t == s) for s in (0, 1)]
         worst = None
         for side, number in self.order[:steps]:
             for s in (0, 1):
-                corner = (s, touch[s])
-                if counts(self.nearest(*corner), self.pieces[1 - s], touch[1 - s]):
+                corner = (s, support[s])
+                if counts(self.nearest(*corner), self.pieces[1 - s], support[1 - s]):
                     worst = corner if worst is None else self.worse(worst, corner)
-            touch[side] = (number + 1) % len(self.pieces[side])
-        return touch, worst
+            support[side] = (number + 1) % len(self.pieces[side])
+        return support, worst
 
-    def trial(self):
+    def exhaustive(self):
         """A's corners by number, then B's; a later one takes the place only if its gap is greater."""
         worst = (0, 0)
         for s in (0, 1):
@@ -206,15 +206,23 @@ class Comparing:
         x, y = f"{near.x}/{near.lower}", f"{near.y}/{near.lower}"
         return f"{'AB'[corner[0]]} {corner[1]} {near.feature} {near.gap} {x} {y}"
 
-    def report(self, allowance):
+    def found(self, allowance):
+        """Whether it is done, the steps made, the support corners, and the answer or the worst so far, as (side, corner) or None."""
         n = len(self.order)
-        touch, worst = self.sweep(min(allowance, n))
+        steps = min(allowance, n)
+        support, worst = self.sweep(steps)
         if allowance < n:
-            shown = "none" if worst is None else self.named(worst)
-            return f"spent {allowance} {touch[0]} {touch[1]} {shown}"
+            return False, steps, support, worst
         answer = (0, 0) if worst is None else worst
-        assert answer == self.trial(), "the sweep and the trial differ"
-        return f"done {n} {self.named(answer)} {clearance(self.nearest(*answer).gap)}"
+        assert answer == self.exhaustive(), "the sweep and the exhaustive search differ"
+        return True, steps, support, answer
+
+    def report(self, allowance):
+        done, steps, support, worst = self.found(allowance)
+        if done:
+            return f"done {steps} {self.named(worst)} {clearance(self.nearest(*worst).gap)}"
+        shown = "none" if worst is None else self.named(worst)
+        return f"spent {steps} {support[0]} {support[1]} {shown}"
 
 
 def compare_all(a, b, allowances):

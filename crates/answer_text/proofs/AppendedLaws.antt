@@ -6,7 +6,8 @@ use mathlib.Core.List.{List, []}
 use native.Mathlib.Omega.{arith}
 use Prim.Native.Nat.{ℕ}
 use Rattle.text.specs.declared.output.Text.{Text}
-use Rattle.text.specs.Output.{textOf, IsText, appended}
+use Rattle.text.specs.Output.{textOf}
+use Rattle.text.specs.code.Output.{IsText, appended}
 use Rattle.text.proofs.OutputLaws.{appended-text, textOf-text}
 
 pub by-case : {X : Type 0} (f : X → List ℕ) (t : Text) {x y : X} {r : Text}

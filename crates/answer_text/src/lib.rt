@@ -8,7 +8,7 @@ use outline::Side;
 use plane::Point;
 use text::output::Text;
 ghost use mathlib.Core.Path.{_≡_};
-ghost use Rattle.text.specs.Output.{appended};
+ghost use Rattle.text.specs.code.Output.{appended};
 ghost use Rattle.answer_text.specs.Parts.{sideText, cornerText, featureText, fractionText, coordinateText};
 ghost use Rattle.answer_text.specs.Parts.{pointText, refusedSideText, placeText, refusalText};
 

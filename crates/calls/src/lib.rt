@@ -1,4 +1,6 @@
 // The public calls. Each may be handed any list of any numbers: it does its own checking and has no `requires`.
+// What a call promises it says twice: as an equation with a definition that computes, and in the words of the rules of
+// docs/SPECIFICATION.md (`rules`), from which a caller reads off what holds. Each of the two determines the result.
 use hausdorff::Comparison;
 use nearest::NearestAnswer;
 use nearest::POINT_OUT_OF_RANGE;
@@ -11,15 +13,20 @@ use outline::Verdict;
 use plane::Corner;
 ghost use mathlib.Core.Path.{_≡_};
 ghost use Rattle.outline.specs.declared.RefusedSide.the-variants.{NoSide};
-ghost use Rattle.outline.specs.Reading.{reading};
-ghost use Rattle.edit.specs.Removal.{removalVerdict, listAfter};
-ghost use Rattle.nearest.specs.Call.{nearestAnswer};
-ghost use Rattle.hausdorff.specs.Call.{comparison, IsComparison};
+ghost use Rattle.outline.specs.Reading.{IsReading};
+ghost use Rattle.outline.specs.code.Reading.{reading};
+ghost use Rattle.edit.specs.Removal.{IsRemoval};
+ghost use Rattle.edit.specs.code.Removal.{removalVerdict, listAfter};
+ghost use Rattle.nearest.specs.Call.{IsNearestAnswer};
+ghost use Rattle.nearest.specs.code.Call.{nearestAnswer};
+ghost use Rattle.hausdorff.specs.code.Call.{comparison};
+ghost use Rattle.hausdorff.specs.Call.{IsComparison};
 
 // Reads the outline that the list `s` gives: x and y of corner 0, then of corner 1, and so on.
 // Refusals 1 to 6; the outline read then has no corners.
 pub fn read_outline(s: &[i32]) -> Reading
-    ensures { λ r. ⌜ r ≡ reading NoSide (now (s .entry)) ⌝ }
+    ensures answer { λ r. ⌜ r ≡ reading NoSide (now (s .entry)) ⌝ }
+    ensures rules { λ r. ⌜ IsReading NoSide (now (s .entry)) r ⌝ }
 {
     reading::read(s, RefusedSide::NoSide)
 }
@@ -29,6 +36,7 @@ pub fn read_outline(s: &[i32]) -> Reading
 pub fn remove_corner(s: &[i32], k: usize, out: &mut [i32]) -> Verdict
     ensures answer { λ r. ⌜ r ≡ removalVerdict (now (s .entry)) k (now (out .entry)) ⌝ }
     ensures list { λ _. ⌜ now (out .exit) ≡ listAfter (now (s .entry)) k (now (out .entry)) ⌝ }
+    ensures rules { λ r. ⌜ IsRemoval (now (s .entry)) k (now (out .entry)) r (now (out .exit)) ⌝ }
 {
     if let Verdict::Refused(refusal) = edit::check_removal(s, k, out.len()) {
         return Verdict::Refused(refusal);
@@ -40,7 +48,8 @@ pub fn remove_corner(s: &[i32], k: usize, out: &mut [i32]) -> Verdict
 // Finds the nearest point, to the point v, of the outline that the list `s` gives.
 // Refusals 1 to 6 for the outline, then 7.
 pub fn nearest_point(v: Corner, s: &[i32]) -> NearestAnswer
-    ensures { λ r. ⌜ r ≡ nearestAnswer v (now (s .entry)) ⌝ }
+    ensures answer { λ r. ⌜ r ≡ nearestAnswer v (now (s .entry)) ⌝ }
+    ensures rules { λ r. ⌜ IsNearestAnswer v (now (s .entry)) r ⌝ }
 {
     let reading = read_outline(s);
     let verdict = reading.verdict;
@@ -59,10 +68,9 @@ pub fn nearest_point(v: Corner, s: &[i32]) -> NearestAnswer
 
 // Compares the outlines that the lists `a` and `b` give, in at most `allowance` steps.
 // Refusals 1 to 6 for A, then 1 to 6 for B. Being spent is no refusal.
-// The two promises say the same: once as an equation, and once in document 01's words, from which a caller reads off what holds.
 pub fn compare(a: &[i32], b: &[i32], allowance: u32) -> Comparison
     ensures answer { λ r. ⌜ r ≡ comparison (now (a .entry)) (now (b .entry)) allowance ⌝ }
-    ensures law { λ r. ⌜ IsComparison (now (a .entry)) (now (b .entry)) allowance r ⌝ }
+    ensures rules { λ r. ⌜ IsComparison (now (a .entry)) (now (b .entry)) allowance r ⌝ }
 {
     let reading_a = reading::read(a, RefusedSide::Of(Side::A));
     let verdict_a = reading_a.verdict;

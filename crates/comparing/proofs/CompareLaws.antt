@@ -1,7 +1,7 @@
--- Comparing makes document 01's steps and reports document 01's report.
+-- Comparing makes the steps of the sweep and reports what they find.
 --     answer-positive      the gap of an answer has a lower number above 0
 --     stepsMade            the steps that are made: all N, or as many as are allowed
---     reportOf-after       what is reported after them is document 01's report
+--     reportOf-after       what is reported after them is `report`
 --     pairOf               the pair of two outlines' values
 --     window-read          corners read from a value, around one of them, are what a step sees there
 --     Neighbours           a corner's number and those on either side are below the count
@@ -10,7 +10,7 @@
 --     Running              the invariant: the state is the sweep of two outlines after k of the steps
 --     run-begins, run-ends     it holds before step 1; after the last step the state is the sweep after all of them
 --     run-can-step, run-on     a step can be made while there is one to make, and after it the invariant holds again
---     compare-reports      the report of the state after the steps that are made is document 01's
+--     compare-reports      the report of the state after the steps that are made is `report`
 use Prim.Native.Nat.{ℕ, suc, _+_, _<_, _≤_}
 use mathlib.Core.Path.{_≡_, refl, sym}
 use mathlib.Core.Bool.{Bool, true, false, cond}
@@ -21,8 +21,9 @@ use lib.ListN.{length}
 use Rattle.integers.specs.Fraction.{isLess}
 use Rattle.plane.specs.declared.Corner.{Corner}
 use Rattle.outline.specs.declared.Outline.{Outline}
-use Rattle.outline.specs.Convex.{IsOutline}
-use Rattle.outline.specs.Corners.{corner, next, previous, most, cornersOf}
+use Rattle.outline.specs.code.Held.{IsOutline}
+use Rattle.outline.specs.Corners.{corner, next, previous, most}
+use Rattle.outline.specs.code.Held.{cornersOf}
 use Rattle.outline.proofs.EdgeLaws.{accepted-polygon}
 use Rattle.outline.proofs.HeldLaws.{length-cornersOf, cornersOf-corner}
 use Rattle.outline.proofs.CornersLaws.{before-below, after-below}
@@ -31,10 +32,12 @@ use Rattle.outline.specs.declared.Side.the-variants.{A, B}
 use Rattle.hausdorff.specs.declared.WorstSoFar.{WorstSoFar}
 use Rattle.hausdorff.specs.declared.WorstSoFar.the-variants.{None, Worst}
 use Rattle.hausdorff.specs.declared.Report.the-variants as Report
-use Rattle.hausdorff.specs.Pair.{Pair, AcceptedPair, both, stepCount}
-use Rattle.hausdorff.specs.Worst.{overall}
-use Rattle.hausdorff.specs.Report.{orWithin, spent, done, report}
-use Rattle.hausdorff.specs.Lowest.{LowestLeftmost}
+use Rattle.hausdorff.specs.Pair.{Pair, both, stepCount}
+use Rattle.hausdorff.specs.code.Pair.{AcceptedPair}
+use Rattle.hausdorff.specs.code.Worst.{overall}
+use Rattle.hausdorff.specs.Law.{orWithin}
+use Rattle.hausdorff.specs.code.Report.{spent, done, report}
+use Rattle.hausdorff.specs.code.Lowest.{LowestLeftmost}
 use Rattle.hausdorff.proofs.WorstLaws.{support-known}
 use Rattle.sweep.specs.declared.State.{State}
 use Rattle.measuring.specs.declared.Window.{Window}
@@ -160,7 +163,7 @@ module _ {a b : Outline} {steps : ℕ} where
         neighbours-b = neighbours (omega (arith, below B, is-after .support B));
       }
 
-  -- each side begins where document 01's sweep does
+  -- each side begins where the sweep does
   pub run-begins : {i j : ℕ} → IsOutline a → IsOutline b → length (a .corners) ≡ most → length (b .corners) ≡ most
       → steps ≤ a .count + b .count → LowestLeftmost (cornersOf a) i → LowestLeftmost (cornersOf b) j
       → Running a b steps 0 (record { a = beginning i (a .count); b = beginning j (b .count) })

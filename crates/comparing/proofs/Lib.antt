@@ -1,2 +1,2 @@
--- Comparing makes document 01's steps and reports what it lays down.
+-- Comparing makes the steps of the sweep and reports what they find.
 pub mod CompareLaws

@@ -9,10 +9,10 @@ use reading::corners::previous;
 use sweep::State;
 ghost use mathlib.Core.Path.{_≡_};
 ghost use Prim.Native.Nat.{_+_, _≤_};
-ghost use Rattle.outline.specs.Convex.{IsOutline};
-ghost use Rattle.outline.specs.Corners.{cornersOf};
+ghost use Rattle.outline.specs.code.Held.{IsOutline};
+ghost use Rattle.outline.specs.code.Held.{cornersOf};
 ghost use Rattle.hausdorff.specs.Pair.{both};
-ghost use Rattle.hausdorff.specs.Report.{report};
+ghost use Rattle.hausdorff.specs.code.Report.{report};
 ghost use Rattle.sweep.specs.State.{IsAfter};
 
 // The sweep after `steps` steps. No step copies an outline.

@@ -15,10 +15,11 @@ use projection::answers;
 use sweep::State;
 ghost use mathlib.Core.Path.{_≡_};
 ghost use Prim.Native.Nat.{_<_};
-ghost use Rattle.integers.specs.Fraction.{Bounded};
+ghost use Rattle.integers.specs.code.Fraction.{Bounded};
 ghost use Rattle.hausdorff.specs.CornerGap.{worse};
-ghost use Rattle.hausdorff.specs.Worst.{overall};
-ghost use Rattle.hausdorff.specs.Report.{orWithin, clearance};
+ghost use Rattle.hausdorff.specs.code.Worst.{overall};
+ghost use Rattle.hausdorff.specs.Law.{orWithin};
+ghost use Rattle.hausdorff.specs.code.Report.{clearance};
 ghost use Rattle.measuring.specs.Changes.{BoundedWorst};
 ghost use Rattle.sweep.specs.State.{BoundedState};
 ghost use Rattle.comparing.specs.ReportOf.{reportOf};
@@ -61,7 +62,7 @@ fn or_within(worst: WorstSoFar, first: Corner) -> CornerGap
     }
 }
 
-// The clearance figure of a gap.
+// The clearance of a gap.
 fn clearance(gap: Fraction) -> u64
     requires { ⌜ 0 < gap .lower ⌝ }
     ensures { λ r. ⌜ r ≡ clearance gap ⌝ }

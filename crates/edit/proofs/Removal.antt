@@ -5,9 +5,12 @@
 --     list-refused, list-taken    what it then leaves in the list to write
 --     removal-able        where it is taken the other corners can be written
 --     removal-accepted    and what is written is an accepted outline
-use Prim.Native.Nat.{ℕ, _≤_, _<_}
-use mathlib.Core.Path.{_≡_}
-use mathlib.Core.Logic.{_↔_, _≢_, Iff·trans}
+--     is-removal          what the call gives is as rule 7.5 lays down
+--     removal-unique      and nothing else is
+--     removal-promises    so it has all parts of the call's contract
+use Prim.Native.Nat.{ℕ, _≤_}
+use mathlib.Core.Path.{_≡_, refl, sym, _∙_}
+use mathlib.Core.Logic.{_↔_, Iff·trans}
 use mathlib.Core.List.{List}
 use native.Mathlib.Omega.{arith}
 use lib.Dec.{eqb}
@@ -18,26 +21,22 @@ use Rattle.plane.specs.Vector.{coordinates}
 use Rattle.outline.specs.declared.Place.the-variants.{Nowhere}
 use Rattle.outline.specs.declared.Refusal.{Refusal}
 use Rattle.outline.specs.declared.RefusedSide.the-variants.{NoSide}
+use Rattle.outline.specs.declared.Verdict.{Verdict}
 use Rattle.outline.specs.declared.Verdict.the-variants.{Taken, Refused}
 use Rattle.outline.specs.Conditions.{readingConditions, AcceptedList}
 use Rattle.outline.specs.Corners.{corners}
-use Rattle.outline.specs.Reading.{checks}
-use Rattle.outline.specs.Refusal.{FirstFault, NoneApplies}
+use Rattle.outline.specs.code.Reading.{checks}
+use Rattle.outline.specs.Refusal.{FirstFault}
 use Rattle.outline.proofs.Acceptance.{checks-decide, none-accepted}
 use Rattle.outline.proofs.CornersLaws.{length-coordinates, corners-coordinates}
 use Rattle.outline.proofs.ConditionLaws.{_and_, AllDecide, first-refused, first-taken}
-use Rattle.outline.proofs.ConditionLaws.{decide-append, none-append, nowhere-plain, test-decides}
-use Rattle.edit.specs.Removal.{without, smallest, ownConditions, removalConditions}
-use Rattle.edit.specs.Removal.{ownChecks, removalChecks, checkRemoval}
-use Rattle.edit.specs.Removal.{removalVerdict, listAfter, Removable}
+use Rattle.outline.proofs.ConditionLaws.{NoneApplies, decide-append, none-append, nowhere-plain, test-decides}
+use Rattle.edit.specs.Removal.{without, smallest, ownConditions, removalConditions, Permitted}
+use Rattle.edit.specs.Removal.{IsRemoval, refused, removed}
+use Rattle.edit.specs.code.Removal.{ownChecks, removalChecks, checkRemoval}
+use Rattle.edit.specs.code.Removal.{removalVerdict, listAfter}
+use Rattle.edit.specs.code.Writing.{Removable}
 use Rattle.edit.proofs.Without.{without-accepted}
-
--- an accepted outline, a corner with that number, more than 3 corners, and a list exactly as long as what remains
-pub record Permitted (s : List ℤ) (k room : ℕ) : Type 0 where
-  pub accepted : AcceptedList s
-  pub known : k < length (corners s)
-  pub more : length (corners s) ≢ smallest
-  pub long : room ≡ length (coordinates (without k (corners s)))
 
 module _ (s : List ℤ) (k room : ℕ) where
   abbrev n : ℕ
@@ -70,11 +69,11 @@ module _ (s : List ℤ) (k room : ℕ) where
       there : NoneApplies (readingConditions NoSide s) × NoneApplies (ownConditions (corners s) k room)
           → Permitted s k room
       there (none, (not-past, (not-three, (not-other, _)))) =
-          let reached : ¬ (n ≤ k) = λ past. not-past (Nowhere, past) in record {
+          let reached : ¬ (n ≤ k) = λ past. not-past (Nowhere, (refl, past)) in record {
             accepted = none-accepted NoSide s .0 none;
             known = omega arith;
-            more = λ three. not-three (Nowhere, three);
-            long = test-stable (eqb room left) (test-eqb room left) (λ other. not-other (Nowhere, other));
+            more = λ three. not-three (Nowhere, (refl, three));
+            long = test-stable (eqb room left) (test-eqb room left) (λ other. not-other (Nowhere, (refl, other)));
           }
 
       back : Permitted s k room
@@ -105,3 +104,28 @@ removal-accepted s k room e =
       rw (corners-coordinates (without k (corners s)))
           (without-accepted (corners s) k ok (omega (arith, ok .at-least, h .more)) (h .known)),
     )
+
+module _ (s : List ℤ) (k : ℕ) (out : List ℤ) where
+  pub is-removal : IsRemoval s k out (removalVerdict s k out) (listAfter s k out)
+  is-removal = go (removalVerdict s k out) refl
+    where
+      go : (v : Verdict) → removalVerdict s k out ≡ v → IsRemoval s k out (removalVerdict s k out) (listAfter s k out)
+      go (Refused r) is = refused r (removal-refused s k (length out) r .0 is) is (list-refused s k out is)
+      go Taken is =
+          let written = list-taken s k out is in
+          removed (removal-taken s k (length out) .0 is) (rw written (removal-accepted s k (length out) is)) is written
+
+  -- what has the two equations has all parts of the call's contract
+  pub removal-promises : {result : Verdict} {after : List ℤ}
+      → result ≡ removalVerdict s k out → after ≡ listAfter s k out
+      → (result ≡ removalVerdict s k out) × ((after ≡ listAfter s k out) × IsRemoval s k out result after)
+  removal-promises is written = (is, (written, rw (is, written) is-removal))
+
+  pub removal-unique : {result : Verdict} {after : List ℤ} → IsRemoval s k out result after
+      → (result ≡ removalVerdict s k out) × (after ≡ listAfter s k out)
+  removal-unique (refused r fault is kept) =
+      let refuses = removal-refused s k (length out) r .1 fault in
+      (is ∙ sym refuses, kept ∙ sym (list-refused s k out refuses))
+  removal-unique (removed permitted accepted is written) =
+      let takes = removal-taken s k (length out) .1 permitted in
+      (is ∙ sym takes, written ∙ sym (list-taken s k out takes))

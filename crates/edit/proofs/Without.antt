@@ -3,7 +3,8 @@
 --     oldNumber-mono, oldNumber-≤        it rises with i, and is at most i + 1
 --     length-without, numbers-without    one corner fewer, two numbers fewer
 --     corner-without                     the i-th of the other corners is corner `oldNumber k i`
---     without-convex, without-accepted   it is strictly convex as the list is; accepted as the list is, if four corners or more
+--     without-convex, without-accepted   it is strictly convex as the list is; accepted as the list is, if four
+--                                        corners or more
 use Prim.Native.Nat.{ℕ, zero, suc, _*_, _-_, _≤_, _<_}
 use native.Mathlib.Omega.{arith}
 use mathlib.Core.Path.{_≡_, refl, ap}
@@ -13,7 +14,8 @@ use Rattle.plane.specs.declared.Corner.{Corner}
 use Rattle.plane.specs.Vector.{coordinates}
 use Rattle.outline.specs.Corners.{corner}
 use Rattle.outline.specs.Convex.{StrictlyConvex, Accepted}
-use Rattle.edit.specs.Removal.{without, oldNumber}
+use Rattle.edit.specs.Removal.{without}
+use Rattle.edit.specs.code.Writing.{oldNumber}
 use Rattle.outline.proofs.CornersLaws.{length-coordinates}
 use Rattle.outline.proofs.LeftTurns.{convex-part}
 

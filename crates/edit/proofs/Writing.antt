@@ -11,7 +11,7 @@ use Rattle.plane.specs.declared.Corner.{Corner}
 use Rattle.plane.specs.Vector.{coordinates}
 use Rattle.outline.specs.Corners.{corner}
 use Rattle.outline.proofs.CornersLaws.{length-coordinates, coordinate-x, coordinate-y}
-use Rattle.edit.specs.Removal.{putCorner}
+use Rattle.edit.specs.code.Writing.{putCorner}
 
 pub put-next : (d : List ℤ) (cs : List Corner) (j : ℕ) → length d ≡ length (coordinates cs) → j < length cs
     → putCorner (copied d (coordinates cs) (2 * j)) j (corner cs j) ≡ copied d (coordinates cs) (2 * (j + 1))

@@ -1,2 +1,3 @@
--- What the contracts of `edit` say.
+-- Removing a corner: rules 2.7 and 7.5.
 pub mod Removal
+pub mod code

@@ -12,7 +12,9 @@ ghost use Prim.Native.Nat.{_+_, _*_, _^_, _<_};
 ghost use lib.ListN.{length};
 ghost use Rattle.plane.specs.Vector.{coordinates};
 ghost use Rattle.outline.specs.Corners.{corners};
-ghost use Rattle.edit.specs.Removal.{oldNumber, without, checkRemoval, Removable, putCorner};
+ghost use Rattle.edit.specs.code.Writing.{oldNumber, Removable, putCorner};
+ghost use Rattle.edit.specs.Removal.{without};
+ghost use Rattle.edit.specs.code.Removal.{checkRemoval};
 
 // The count of an outline that no corner can be removed from.
 const SMALLEST: usize = 3;

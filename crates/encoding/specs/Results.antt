@@ -1,11 +1,4 @@
--- The numbers that a result list holds after a call, place by place.
---     absent                      stands where a place does not apply
---     kindOf, numberOf            the kind of a feature, and its number
---     sideCode                      the side of a corner
---     ofNearest                   of a nearest point: feature kind and number, gap upper and lower, X, Y and D of the point
---     ofCorner, ofWorst           of a corner with its gap: side and corner, and then as `ofNearest`; of the worst so far, or none
---     row, ofDone, ofSpent, ofReport    of a comparison: kind, steps, support corners of A and B, then as `ofWorst`,
---                                       then the clearance
+-- Rules 9.4 to 9.6: the numbers that a result list holds after a call, place by place.
 use mathlib.Core.List.{List, [], _∷_, _++_}
 use lib.IntN.{ℤ, pos, negsuc}
 use lib.ListN.{replicate}
@@ -23,20 +16,23 @@ use Rattle.hausdorff.specs.declared.Report.{Report}
 use Rattle.hausdorff.specs.declared.Report.the-variants as Report
 use Rattle.hausdorff.specs.CornerGap.{nearestOf}
 
--- -1
+-- rule 9.6: -1 stands where a place does not apply
 abbrev pub absent : ℤ
 absent = negsuc 0
 
+-- the kind of a feature: 0 within, 1 corner, 2 edge
 abbrev pub kindOf : Feature → ℤ
 kindOf Within = pos 0
 kindOf (Corner i) = pos 1
 kindOf (Edge i) = pos 2
 
+-- the number of a feature; within has none
 abbrev pub numberOf : Feature → ℤ
 numberOf Within = absent
 numberOf (Corner i) = pos i
 numberOf (Edge i) = pos i
 
+-- rule 9.4, of a nearest point: the feature's kind and number, the gap's upper and lower, X, Y and D of the point
 abbrev pub ofNearest : NearestPoint → List ℤ
 ofNearest a =
     kindOf (a .feature)
@@ -48,31 +44,34 @@ ofNearest a =
     ∷ pos (a .point .lower)
     ∷ []
 
+-- the side of a corner: 1 for A, 2 for B
 abbrev pub sideCode : Side → ℤ
 sideCode A = pos 1
 sideCode B = pos 2
 
+-- of a corner with its gap: side and corner, and then as `ofNearest`
 abbrev pub ofCorner : CornerGap → List ℤ
 ofCorner w = sideCode (w .side) ∷ pos (w .corner) ∷ ofNearest (nearestOf w)
 
--- none yet: side 0, and nothing else applies
+-- of the worst so far. Where there is none, the side is 0 and nothing else applies
 abbrev pub ofWorst : WorstSoFar → List ℤ
 ofWorst None = pos 0 ∷ replicate 8 absent
 ofWorst (Worst w) = ofCorner w
 
--- kind, steps made, support corners of A and B, the worst so far, clearance
+-- rule 9.5, of a comparison: kind, steps made, support corners of A and B, the worst so far, clearance
 abbrev pub row : ℤ → ℤ → ℤ → ℤ → WorstSoFar → ℤ → List ℤ
 row kind steps support-a support-b worst clearance =
     kind ∷ steps ∷ support-a ∷ support-b ∷ ofWorst worst ++ (clearance ∷ [])
 
--- kind 0: no support corners
+-- of a done report: kind 0, no support corners, and the answer in the places of the worst so far
 abbrev pub ofDone : Done → List ℤ
 ofDone d = row (pos 0) (pos (d .steps)) absent absent (Worst (d .answer)) (pos (d .clearance))
 
--- kind 1: no clearance
+-- of a spent report: kind 1, no clearance
 abbrev pub ofSpent : Spent → List ℤ
 ofSpent p = row (pos 1) (pos (p .steps)) (pos (p .support .a)) (pos (p .support .b)) (p .worst) absent
 
+-- of what comparing reports
 abbrev pub ofReport : Report → List ℤ
 ofReport (Report.Spent p) = ofSpent p
 ofReport (Report.Done d) = ofDone d

@@ -12,8 +12,8 @@ ghost use Prim.Native.Nat.{_^_, _<_};
 ghost use lib.IntN.{pos};
 ghost use Rattle.encoding.specs.Results.{kindOf, numberOf, ofNearest, sideCode, ofCorner, ofWorst, row, ofDone};
 ghost use Rattle.encoding.specs.Results.{ofSpent, ofReport};
-ghost use Rattle.hausdorff.specs.Sizes.{FeatureFits, NearestFits, CornerFits, WorstFits};
-ghost use Rattle.hausdorff.specs.Sizes.{DoneFits, SpentFits, ReportFits};
+ghost use Rattle.hausdorff.specs.code.Sizes.{FeatureFits, NearestFits, CornerFits, WorstFits};
+ghost use Rattle.hausdorff.specs.code.Sizes.{DoneFits, SpentFits, ReportFits};
 
 // How many numbers there are of a nearest point, of a corner with its gap, and of a comparison.
 pub const NEAREST_LENGTH: usize = 7;

@@ -1,4 +1,5 @@
-// The status that every call returns: a refusal as plain numbers. `specs/Status.antt` sets out the numbers of each case.
+// The status that every call returns: a refusal as plain numbers. `specs/Status.antt` sets out the numbers of each
+// case.
 use outline::Place;
 use outline::Refusal;
 use outline::RefusedSide;

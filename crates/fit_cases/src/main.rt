@@ -1,5 +1,5 @@
-// Cases of the fit program: its answers to the inputs that stand in this program's input, one after the other, each ended by byte 255.
-// `tests/cases.py` writes them and, by another way, what is to be written.
+// Cases of the fit program: its answers to the inputs that stand in this program's input, one after the other, each
+// ended by byte 255. `tests/cases.py` writes them and, by another way, what is to be written.
 use libc::STDIN_FILENO;
 ghost use mathlib.Core.Path.{_≡_};
 ghost use Prim.Native.Nat.{_≤_};

@@ -6,7 +6,7 @@ use hausdorff::Report;
 use integers::fraction::Fraction;
 use text::output::Text;
 ghost use mathlib.Core.Path.{_≡_};
-ghost use Rattle.text.specs.Output.{appended};
+ghost use Rattle.text.specs.code.Output.{appended};
 ghost use Rattle.fit_lines.specs.Lines.{gapLine, numberLine, fromLine, toLine};
 ghost use Rattle.fit_lines.specs.Lines.{doneText, reportText, comparisonText};
 

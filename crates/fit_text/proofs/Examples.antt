@@ -1,24 +1,27 @@
 -- Worked examples: what the program writes for an input, by computing what the definitions give.
 --     Case, Holds, All    an input and what is written for it; the definitions say so; of each of some cases
---     examples            document 01's example; then a refusal with two places, one, and none; a count above 256; what cannot be read
+--     examples            the example of rule 8.8; then a refusal with two places, one, and none; a count above
+--                         256; what cannot be read
 use Prim.Native.String.{String}
 use mathlib.Core.List.{List, [], _∷_}
 use mathlib.Core.Path.{_≡_, refl}
-use Rattle.plane.specs.Range.{inRange}
-use Rattle.plane.specs.Vector.{_⇀_, cross, dot, same}
+use Rattle.plane.specs.code.Range.{inRange}
+use Rattle.plane.specs.Vector.{_⇀_, cross, dot}
+use Rattle.plane.specs.code.Tests.{same}
 use Rattle.lists.specs.Fold.{fold}
 use Rattle.outline.specs.Corners.{corners, next}
-use Rattle.outline.specs.Reading.{checkRange, checkRepeated, checkEdge, checkConvex}
-use Rattle.nearest.specs.Local.{feature}
+use Rattle.outline.specs.code.Reading.{checkRange, checkRepeated, checkEdge, checkConvex}
+use Rattle.nearest.specs.code.Local.{feature}
 use Rattle.plane.specs.Direction.{isFirstHalf, isBefore, sameDirection}
 use Rattle.plane.specs.Point.{_⇢_}
-use Rattle.integers.specs.Root.{rootBy}
+use Rattle.integers.specs.code.Root.{rootBy}
 use Rattle.lists.specs.Lists.{insert, sort}
-use Rattle.hausdorff.specs.AngularOrder.{precedes, edgesBelow, angularOrder, own}
-use Rattle.hausdorff.specs.Counting.{liesAt, isCounted}
-use Rattle.hausdorff.specs.Sweep.{begin, measured, step, steps}
-use Rattle.hausdorff.specs.Report.{report}
-use Rattle.hausdorff.specs.Call.{checkPair}
+use Rattle.hausdorff.specs.AngularOrder.{precedes, angularOrder}
+use Rattle.hausdorff.specs.code.Counting.{liesAt, isCounted}
+use Rattle.hausdorff.specs.Support.{firstStart, passAll}
+use Rattle.hausdorff.specs.code.Sweep.{measured, worstAfter}
+use Rattle.hausdorff.specs.code.Report.{report}
+use Rattle.hausdorff.specs.code.Call.{checkPair}
 use Rattle.text.specs.Ascii.{ascii}
 use Rattle.text.specs.Decimal.{digits}
 use Rattle.text.specs.Number.{allDigits, valueFrom, natural, number}
@@ -59,7 +62,8 @@ cases =
 
 pub examples : All cases
 unfolding inRange _⇀_ cross dot same fold corners next checkRange checkRepeated checkEdge checkConvex checkPair feature
-    isFirstHalf isBefore sameDirection _⇢_ rootBy precedes insert sort edgesBelow angularOrder own liesAt isCounted
-    begin measured step steps report digits allDigits valueFrom natural number wordsFrom numbers outline cornerText
+    isFirstHalf isBefore sameDirection _⇢_ rootBy precedes insert sort angularOrder liesAt isCounted
+    firstStart passAll measured worstAfter report digits allDigits valueFrom natural number wordsFrom numbers outline
+    cornerText
     fractionText coordinateText pointText refusalText gapLine numberLine fromLine toLine doneText
 examples = (refl, (refl, (refl, (refl, (refl, (refl, (refl, (refl, (refl, (refl, (refl, tt)))))))))))

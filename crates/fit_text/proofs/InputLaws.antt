@@ -1,6 +1,7 @@
 -- Laws of reading outlines from a text.
 --     numbers-next, numbers-stop    so many numbers, by what the first word gives
---     Read                          the first i of n numbers are read to a list: what is given is decided by the words that are left
+--     Read                          the first i of n numbers are read to a list: what is given is decided by the
+--                                   words that are left
 --     none-read, one-read, all-read, not-read    how reading begins, goes on and ends
 --     outline-stop, outline-negative, outline-many, outline-counted    an outline, by what the first word gives
 --     count-bound                   a count that is neither negative nor above 256
@@ -21,18 +22,20 @@ use lib.Seq.{take-suc-set}
 use lib.Signed.{ltZ, nonNeg}
 use Rattle.text.specs.declared.input.Parsed.the-variants.{Number, Invalid}
 use Rattle.text.specs.Number.{firstNumber}
-use Rattle.text.specs.Words.{words, isEmpty}
+use Rattle.text.specs.Words.{words}
+use Rattle.text.specs.code.Words.{isEmpty}
 use Rattle.outline.specs.declared.Place.the-variants.{Nowhere}
 use Rattle.outline.specs.declared.RefusedSide.{RefusedSide}
 use Rattle.outline.specs.declared.Verdict.the-variants.{Refused}
 use Rattle.outline.specs.Corners.{corners, most}
-use Rattle.outline.specs.Reading.{check}
-use Rattle.hausdorff.specs.Call.{comparison}
+use Rattle.outline.specs.code.Reading.{check}
+use Rattle.hausdorff.specs.code.Call.{comparison}
 use Rattle.fit_text.specs.declared.parsing.Found.{Found}
 use Rattle.fit_text.specs.declared.parsing.Found.the-variants as Found
 use Rattle.fit_text.specs.declared.parsing.Outcome.the-variants as Outcome
 use Rattle.fit_text.specs.Input.{Given, Numbers, TooMany, Unreadable, put, numbers, outline}
-use Rattle.fit_text.specs.Input.{allowance, tooMany, withB, asGiven, countOf}
+use Rattle.fit_text.specs.Input.{allowance, tooMany, withB}
+use Rattle.fit_text.specs.code.Input.{asGiven, countOf}
 
 numbers-next : (n : ℕ) (ws : List (List ℕ)) {z : ℤ}
     → firstNumber ws ≡ Number z → numbers (suc n) ws ≡ put z (numbers n (drop 1 ws))

@@ -1,5 +1,5 @@
 -- Laws of what the program writes.
---     response-laid-down    every response is one of document 01's texts: 512 steps are always enough
+--     response-laid-down    every response is one of the texts of rule 8.10: 512 steps are always enough
 --     response-start        one byte above the limit tells all that the program needs of a longer input
 --     response-fits         every response fits a text
 use Prim.Native.Nat.{ℕ, suc, _≤_}
@@ -18,7 +18,8 @@ use Rattle.hausdorff.specs.declared.Spent.{Spent}
 use Rattle.hausdorff.specs.declared.Report.the-variants as Report
 use Rattle.hausdorff.specs.declared.Comparison.{Comparison}
 use Rattle.hausdorff.specs.declared.Comparison.the-variants.{Refused, Reported}
-use Rattle.hausdorff.specs.Call.{comparison}
+use Rattle.hausdorff.specs.code.Call.{comparison}
+use Rattle.hausdorff.proofs.Law.{law-spent}
 use Rattle.hausdorff.proofs.CallLaws.{is-comparison, reported-means}
 use Rattle.fit_lines.specs.Lines.{comparisonText}
 use Rattle.fit_lines.proofs.LengthLaws.{refusal-line-fits, done-fits}
@@ -31,8 +32,7 @@ use Rattle.fit_text.specs.Response.{outcomeText, mostBytes, response, La
 never-spent : (s t : List ℤ) (p : Spent) → ¬ (comparison s t allowance ≡ Reported (Report.Spent p))
 never-spent s t p is =
     let (a, (b, law)) = reported-means s t allowance (Report.Spent p) (rw is at (is-comparison s t allowance)) in
-    let done : Report.Spent p ≡ Report.Done _ = law .else-done (omega (arith, a .1 .at-most, b .1 .at-most)) in
-    let no : _≡_ {A = ℕ} 0 1 = cc in omega arith
+    let below = law-spent law .0 in omega (arith, a .1 .at-most, b .1 .at-most)
 
 -- what a comparison that is not spent writes
 comparison-laid-down : (c : Comparison) → ((p : Spent) → ¬ (c ≡ Reported (Report.Spent p)))

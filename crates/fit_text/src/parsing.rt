@@ -9,7 +9,8 @@ ghost use Prim.Native.Nat.{_*_, _≤_};
 ghost use lib.ListN.{length, drop};
 ghost use Rattle.text.specs.Words.{words};
 ghost use Rattle.outline.specs.Corners.{most};
-ghost use Rattle.fit_text.specs.Input.{numbers, outline, withB, outcome, asGiven, countOf, tooMany};
+ghost use Rattle.fit_text.specs.Input.{numbers, outline, withB, outcome, tooMany};
+ghost use Rattle.fit_text.specs.code.Input.{asGiven, countOf};
 
 // How many steps are allowed: every comparison is done with so many.
 const ALLOWANCE: u32 = 512;
@@ -17,7 +18,8 @@ const ALLOWANCE: u32 = 512;
 // How many numbers an outline has at the most.
 const MOST_NUMBERS: usize = 2 * MOST;
 
-// What a text gives for an outline: how many numbers, and the place after them; a count above 256; or what cannot be read.
+// What a text gives for an outline: how many numbers, and the place after them; a count above 256; or what cannot
+// be read.
 pub enum Found {
     Numbers(usize, usize),
     TooMany,

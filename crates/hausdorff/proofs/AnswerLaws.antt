@@ -1,16 +1,17 @@
 -- The answer: there is one, and the steps and the exhaustive search find it.
---     answer-unique       document 01's definition admits one answer only
+--     answer-unique       rule 4.2 admits one answer only
 --     sweep-answers       the worst so far after all steps is the answer
 --     zero-answer         if every gap is zero the answer is A's corner 0, within
 --     search-answers      what the exhaustive search finds is the answer
 use Prim.Native.Nat.{ℕ, zero, suc, _<_, _≤_}
-use mathlib.Core.Path.{_≡_, refl, sym, ap, _∙_}
+use mathlib.Core.Path.{_≡_, refl, ap, _∙_}
 use mathlib.Core.Logic.{_↔_, _⊎_, inl, inr, ⊎-elim}
 use native.Mathlib.Decide.{ℕ-discrete}
 use native.Mathlib.Omega.{arith}
 use lib.ListN.{length}
 use Rattle.integers.specs.Fraction.{NotGreater}
 use Rattle.integers.proofs.FractionOrder.{less-notGreater}
+use Rattle.lists.specs.Fold.{fold}
 use Rattle.outline.specs.Corners.{corner}
 use Rattle.plane.specs.Point.{whole}
 use Rattle.nearest.specs.declared.Feature.{Feature}
@@ -23,18 +24,21 @@ use Rattle.hausdorff.specs.declared.WorstSoFar.{WorstSoFar}
 use Rattle.hausdorff.specs.declared.WorstSoFar.the-variants.{None, Worst}
 use Rattle.outline.specs.declared.Side.{Side}
 use Rattle.outline.specs.declared.Side.the-variants.{A, B}
-use Rattle.hausdorff.specs.Pair.{Pair, other, stepCount, Polygons}
-use Rattle.hausdorff.specs.CornerGap.{withCorner, cornerGap, worse}
-use Rattle.hausdorff.specs.Worst.{shownNumber, overall}
-use Rattle.hausdorff.specs.Sweep.{after}
-use Rattle.hausdorff.specs.Report.{answer, orWithin}
+use Rattle.hausdorff.specs.Pair.{Pair, other, stepCount}
+use Rattle.hausdorff.specs.code.Pair.{Polygons}
+use Rattle.hausdorff.specs.CornerGap.{withCorner, worse}
+use Rattle.hausdorff.specs.code.CornerGap.{cornerGap}
+use Rattle.hausdorff.specs.code.Worst.{shownNumber, overall}
+use Rattle.hausdorff.specs.code.Sweep.{worstAfter}
+use Rattle.hausdorff.specs.code.Report.{answer}
+use Rattle.hausdorff.specs.Law.{orWithin}
 use Rattle.hausdorff.specs.Exhaustive.{searched, tryCorners, exhaustive}
 use Rattle.hausdorff.specs.Answer.{IsGap, NotLater, IsAnswer, Leads}
 use Rattle.hausdorff.proofs.Preference.{preferred-refl}
-use Rattle.hausdorff.proofs.Leads.{not-later-on-side, not-later-antisym, leads-map, leads-worse}
+use Rattle.hausdorff.proofs.Leads.{not-later-on-side, leads-map, leads-unique, leads-worse}
 use Rattle.hausdorff.proofs.Leads.{OnSide, by-side, worse-first, worse-second, leads-of, leads-both}
 use Rattle.hausdorff.proofs.SideWorst.{SideWorst, side-worst}
-use Rattle.hausdorff.proofs.GapLaws.{gap-iff, gap-is, least-iff}
+use Rattle.hausdorff.proofs.GapLaws.{gap-is, least-iff}
 
 -- any corner of the side s
 abbrev AnyOnSide : Pair → Side → CornerGap → Type 0
@@ -46,14 +50,8 @@ orFirst pair s None = cornerGap pair s 0
 orFirst pair s (Worst w) = w
 
 module _ (pair : Pair) (polygons : Polygons pair) where
-  -- neither of two answers is greater, so neither is later
   pub answer-unique : (w z : CornerGap) → IsAnswer pair w → IsAnswer pair z → w ≡ z
-  answer-unique w z p q =
-      gap-iff pair polygons w .0 (p .is-gap) .1
-      ∙ not-later-antisym pair (w .side) (z .side) (w .corner) (z .corner)
-      (p .first-of-equals z (q .is-gap) tt (q .greatest w (p .is-gap) tt))
-      (q .first-of-equals w (p .is-gap) tt (p .greatest z (q .is-gap) tt))
-      ∙ sym (gap-iff pair polygons z .0 (q .is-gap) .1)
+  answer-unique w z p q = leads-unique pair polygons w z p q
 
   -- a side has a corner 0
   nonempty : (s : Side) → 0 < length (pair s)
@@ -110,7 +108,7 @@ module _ (pair : Pair) (polygons : Polygons pair) where
       (sides-answer (orFirst pair A a) (orFirst pair B b) (side-leads A a p) (side-leads B b q))
 
   pub sweep-answers : IsAnswer pair (answer pair)
-  sweep-answers = overall-answers (after pair (stepCount pair) .worst A) (after pair (stepCount pair) .worst B)
+  sweep-answers = overall-answers (worstAfter pair (stepCount pair) A) (worstAfter pair (stepCount pair) B)
       (side-worst pair polygons A) (side-worst pair polygons B)
 
   -- every corner is within
@@ -132,11 +130,12 @@ module _ (pair : Pair) (polygons : Polygons pair) where
         preferred = λ j e. rw (e, same) (preferred-refl (shownNumber pair s) (cornerGap pair s n));
       })
 
-  -- where w leads among gaps that are not later than any of side s, trying the corners of s below n leads to what leads among all of these
+  -- where w leads among gaps that are not later than any of side s, trying the corners of s below n leads to what
+  -- leads among all of these
   tries : {T : CornerGap → Type 0} (s : Side) (w : CornerGap) → Leads pair T w
       → ((x z : CornerGap) → T x → z .side ≡ s → NotLater (x .side) (x .corner) (z .side) (z .corner))
       → (n : ℕ) → n ≤ length (pair s) → Leads pair (λ z. T z ⊎ OnSide s (λ j. j < n) z) (tryCorners pair s w n)
-  unfolding tryCorners
+  unfolding fold
   tries s w leads later zero fits = leads-map (λ z. (inl, ⊎-elim (λ t. t) (λ of. absurd (omega (arith, of .1))))) leads
   tries {T} s w leads later (suc n) fits =
       let rest = tries s w leads later n (omega arith) in

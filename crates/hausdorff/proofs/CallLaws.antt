@@ -2,13 +2,14 @@
 --     pair-refused, pair-taken    the checks refuse with the refusal of the first condition that applies, and take two
 --                                 accepted outlines
 --     pair-fault                  the first condition that applies is A's, or A is accepted and it is B's
---     compare-refuses             the call refuses as the checks do
---     law-unique                  the law of demand 3 leaves one report
---     is-comparison               what the call gives is as document 01 lays down: the refusal of the first condition
---                                 that applies, or else a report that obeys the law
+--     compare-refuses             the call refuses exactly with the refusal of the first condition that applies
+--     is-comparison               what the call gives is as rule 7.4 lays down: the refusal of the first condition that
+--                                 applies, or else a report that obeys the law
 --     comparison-unique           and nothing else is
 --     both-accepted               the pair of two accepted outlines
 --     reported-means              where it is a report both lists are accepted, and the law holds of it
+--     comparison-swap             a done report of B with A has the same gap, as a value
+--     comparison-start            and so has one of lists that start at other corners
 -- For the code, by what reading the lists gives:
 --     call-asks                       a list is taken: what the steps ask of the outline
 --     call-unread-a, call-unread-b    A's list is refused; A's is taken and B's refused
@@ -17,47 +18,48 @@
 use Prim.Native.Nat.{ℕ}
 use mathlib.Core.Path.{_≡_, refl, sym, ap, _∙_}
 use mathlib.Core.Logic.{_↔_, Iff·trans, _⊎_, ⊎-map}
-use mathlib.Core.Bool.{Bool, true, false}
 use mathlib.Core.List.{List}
 use native.Mathlib.Omega.{arith}
-use borrow.Author.Tests.{ltb-true, ltb-false}
-use lib.Dec.{ltb}
 use lib.IntN.{ℤ}
+use Rattle.integers.specs.Fraction.{SameValue}
 use Rattle.plane.specs.declared.Corner.{Corner}
 use Rattle.outline.specs.declared.Reading.{Reading}
 use Rattle.outline.specs.declared.Refusal.{Refusal}
 use Rattle.outline.specs.declared.RefusedSide.{RefusedSide}
 use Rattle.outline.specs.declared.RefusedSide.the-variants.{Of}
+use Rattle.outline.specs.declared.Side.{Side}
 use Rattle.outline.specs.declared.Side.the-variants.{A, B}
 use Rattle.outline.specs.declared.Verdict.{Verdict}
 use Rattle.outline.specs.declared.Verdict.the-variants as Verdict
 use Rattle.outline.specs.Conditions.{readingConditions, AcceptedList}
-use Rattle.outline.specs.Convex.{Accepted, IsOutline}
-use Rattle.outline.specs.Corners.{corners, cornersOf}
-use Rattle.outline.specs.Reading.{checks, check, reading}
+use Rattle.outline.specs.Convex.{Accepted}
+use Rattle.outline.specs.code.Held.{IsOutline}
+use Rattle.outline.specs.Corners.{corners}
+use Rattle.outline.specs.code.Held.{cornersOf}
+use Rattle.outline.specs.code.Reading.{checks, check, reading}
 use Rattle.outline.specs.Refusal.{FirstFault}
+use Rattle.outline.proofs.EdgeLaws.{accepted-polygon}
 use Rattle.outline.proofs.Acceptance.{checks-decide, none-accepted}
 use Rattle.outline.proofs.ChecksLaws.{append-stops, append-goes-on}
 use Rattle.outline.proofs.ConditionLaws.{AllDecide, first-refused, first-taken}
 use Rattle.outline.proofs.ConditionLaws.{decide-append, none-append, fault-append}
 use Rattle.outline.proofs.ReadingLaws.{reading-outline, reading-cornersOf}
+use Rattle.nearest.proofs.Rotation.{startingAt, SamePiece, startingAt-piece}
+use Rattle.hausdorff.specs.Hausdorff.{Hausdorff}
+use Rattle.hausdorff.specs.declared.Done.{Done}
 use Rattle.hausdorff.specs.declared.Report.{Report}
+use Rattle.hausdorff.specs.declared.Report.the-variants as Report
 use Rattle.hausdorff.specs.declared.Comparison.{Comparison}
 use Rattle.hausdorff.specs.declared.Comparison.the-variants.{Refused, Reported}
-use Rattle.hausdorff.specs.Pair.{Pair, AcceptedPair, both, stepCount}
-use Rattle.hausdorff.specs.Report.{report}
+use Rattle.hausdorff.specs.Pair.{both}
+use Rattle.hausdorff.specs.code.Pair.{AcceptedPair, Polygons}
+use Rattle.hausdorff.specs.code.Report.{report}
 use Rattle.hausdorff.specs.Law.{Law}
-use Rattle.hausdorff.specs.Call.{pairConditions, pairChecks, checkPair, comparisonFor, comparison, IsComparison}
+use Rattle.hausdorff.specs.Call.{pairConditions, IsComparison}
+use Rattle.hausdorff.specs.code.Call.{pairChecks, checkPair, comparisonFor, comparison}
 use Rattle.hausdorff.specs.Call.{refused, reported}
-use Rattle.hausdorff.proofs.Law.{law}
-
--- spent or done by the allowance, and then as laid down
-pub law-unique : {pair : Pair} {allowance : ℕ} {r q : Report} → Law pair allowance r → Law pair allowance q → r ≡ q
-law-unique {pair} {allowance} {r} {q} one other = go (ltb allowance (stepCount pair)) refl
-  where
-    go : (b : Bool) → ltb allowance (stepCount pair) ≡ b → r ≡ q
-    go true e = let below = ltb-true _ _ e in one .spent-below below ∙ sym (other .spent-below below)
-    go false e = let enough = ltb-false _ _ e in one .else-done enough ∙ sym (other .else-done enough)
+use Rattle.hausdorff.proofs.HausdorffLaws.{hausdorff-unique, hausdorff-swap, hausdorff-pieces}
+use Rattle.hausdorff.proofs.Law.{law, law-done, law-unique}
 
 pub both-accepted : (ps qs : List Corner) → Accepted ps → Accepted qs → AcceptedPair (both ps qs)
 both-accepted ps qs ok-a ok-b A = ok-a
@@ -106,6 +108,9 @@ module _ (s t : List ℤ) (allowance : ℕ) where
   abbrev reports : Report
   reports = report (both (corners s) (corners t)) allowance
 
+  polygons : AcceptedList s → AcceptedList t → Polygons (both (corners s) (corners t))
+  polygons ok-a ok-b r = accepted-polygon (both-accepted _ _ (ok-a .1) (ok-b .1) r)
+
   obeys : AcceptedList s → AcceptedList t → Law (both (corners s) (corners t)) allowance reports
   obeys ok-a ok-b = law _ (both-accepted _ _ (ok-a .1) (ok-b .1)) allowance
 
@@ -130,7 +135,7 @@ module _ (s t : List ℤ) (allowance : ℕ) where
   pub comparison-unique : {result : Comparison} → IsComparison s t allowance result → result ≡ comparison s t allowance
   comparison-unique (refused r first is) = rw (is, pair-refused s t r .1 first)
   comparison-unique (reported r ok-a ok-b lawful is) =
-      rw (is, pair-taken s t .1 (ok-a, ok-b), law-unique lawful (obeys ok-a ok-b))
+      rw (is, pair-taken s t .1 (ok-a, ok-b), law-unique (polygons ok-a ok-b) lawful (obeys ok-a ok-b))
 
   -- a report tells that both lists are accepted and that the law holds of it
   pub reported-means : (q : Report) → IsComparison s t allowance (Reported q)
@@ -168,3 +173,25 @@ module _ (s t : List ℤ) (allowance : ℕ) where
       call-reported taken-b is =
           let at-a = cornersOf-read (Of A) s is-a taken-a in let at-b = cornersOf-read (Of B) t is-b taken-b in
           rw (is, at-a, at-b) (by-verdict (by-b ∙ is-taken (Of B) t is-b taken-b))
+
+-- the gap of a done report is the Hausdorff distance
+done-distance : (s t : List ℤ) (k : ℕ) (d : Done) → IsComparison s t k (Reported (Report.Done d))
+    → Hausdorff (both (corners s) (corners t)) (d .answer .gap)
+done-distance s t k d is =
+    let (_, (_, lawful)) = reported-means s t k (Report.Done d) is in law-done lawful .1 .distance
+
+pub comparison-swap : (s t : List ℤ) (k j : ℕ) (d e : Done) → IsComparison s t k (Reported (Report.Done d))
+    → IsComparison t s j (Reported (Report.Done e)) → SameValue (d .answer .gap) (e .answer .gap)
+comparison-swap s t k j d e one other =
+    hausdorff-unique (done-distance s t k d one) (hausdorff-swap (corners t) (corners s) (done-distance t s j e other))
+
+pub comparison-start : (s t s' t' : List ℤ) (a b k j : ℕ) (d e : Done)
+    → corners s' ≡ startingAt a (corners s) → corners t' ≡ startingAt b (corners t)
+    → IsComparison s t k (Reported (Report.Done d)) → IsComparison s' t' j (Reported (Report.Done e))
+    → SameValue (d .answer .gap) (e .answer .gap)
+comparison-start s t s' t' a b k j d e from-s from-t one other =
+    hausdorff-unique (hausdorff-pieces same (done-distance s t k d one)) (done-distance s' t' j e other)
+  where
+    same : (r : Side) → SamePiece (both (corners s) (corners t) r) (both (corners s') (corners t') r)
+    same A z = rw from-s (startingAt-piece a (corners s) z)
+    same B z = rw from-t (startingAt-piece b (corners t) z)

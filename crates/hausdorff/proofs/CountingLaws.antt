@@ -1,12 +1,11 @@
--- When a corner counts, told from its nearest point and from its nearest feature.
---     LiesOn           a point lies on edge i, its ends included
---     LiesAt           a point is corner b or lies on one of the two edges that meet there, ends included
---     counted-means    v counts exactly where it is outside the piece and its nearest point lies at corner b
---     counted-iff      and so exactly where its nearest feature is corner b, a neighbour of it, or an edge at it
--- The second follows since a point that lies on an edge is one of its ends or strictly between them, and a point is one feature only.
+-- When a corner counts.
+--     counted-iff    the test holds exactly where v's nearest feature is corner b, a neighbour of it, or an edge at it
+--     counts-iff     and so exactly where v counts, whichever nearest point that is told from
+-- The first follows since a point that lies on an edge is one of its ends or strictly between them, and a point is
+-- one feature only.
 use Prim.Native.Nat.{ℕ, _<_}
-use mathlib.Core.Path.{_≡_, refl, sym, subst}
-use mathlib.Core.Logic.{_↔_, _⊎_, inl, inr, Iff·trans}
+use mathlib.Core.Path.{_≡_, refl, sym, subst, _∙_}
+use mathlib.Core.Logic.{_↔_, inl, inr, Iff·trans}
 use mathlib.Core.Bool.{true}
 use mathlib.Core.List.{List, [], _∷_, _++_}
 use native.Mathlib.Omega.{arith}
@@ -24,34 +23,26 @@ use Rattle.plane.specs.Point.{whole, _⇢_, Same}
 use Rattle.plane.specs.Vector.{_⇀_, cross, dot, coordinates}
 use Rattle.plane.proofs.Algebra.{O, vec, crossE, dotE, _⇀E_, components, side-start, side-stop, dot-self, dot-swap}
 use Rattle.plane.proofs.Halves.{NonZero}
-use Rattle.plane.proofs.Points.{pt, wholeE, _⇢E_, numbers, whole-⇢, dot-self-0, same-refl, same-sym, not-apart}
-use Rattle.outline.specs.Convex.{Polygon}
+use Rattle.plane.proofs.Points.{pt, wholeE, _⇢E_, numbers, whole-⇢, dot-self-0, same-sym, not-apart, whole-proper}
+use Rattle.outline.specs.code.Polygon.{Polygon}
 use Rattle.outline.specs.Corners.{corner, next, previous, edge}
 use Rattle.outline.proofs.CornersLaws.{next-below, previous-below, next-previous, previous-next}
 use Rattle.nearest.specs.declared.Feature.{Feature}
 use Rattle.nearest.specs.declared.Feature.the-variants as Feature
-use Rattle.nearest.specs.declared.NearestPoint.{NearestPoint}
 use Rattle.nearest.specs.Feature.{values}
-use Rattle.nearest.specs.Piece.{sideOf, Outside}
-use Rattle.nearest.specs.Local.{Tested, feature, nearest}
-use Rattle.nearest.specs.Nearest.{Fits, Between, Answers}
-use Rattle.nearest.proofs.AnswerLaws.{feature-tested, tested-answers}
+use Rattle.nearest.specs.Piece.{Outside}
+use Rattle.nearest.specs.code.Local.{Tested, feature, nearest}
+use Rattle.nearest.specs.Nearest.{Nearest, Fits, Between, Answers}
+use Rattle.nearest.proofs.AnswerLaws.{feature-tested, values-feature, tested-answers, nearest-is}
+use Rattle.nearest.proofs.NearestLaws.{nearest-unique}
 use Rattle.nearest.proofs.FitsLaws.{fits-unique}
 use Rattle.outline.proofs.EdgeLaws.{length-above-0}
 use Rattle.nearest.proofs.PieceLaws.{outside-test}
-use Rattle.hausdorff.specs.Counting.{isSame, liesOn, liesAt, isCounted}
+use Rattle.hausdorff.specs.Counted.{LiesOn, LiesAt, Counts}
+use Rattle.hausdorff.specs.code.Counting.{isSame, liesOn, liesAt, isCounted}
 use Rattle.hausdorff.proofs.Extreme.{AtSupport}
 
 -- ---- what the tests say
-
--- on the edge's line, not before its start and not after its end
-pub record LiesOn (cs : List Corner) (i : ℕ) (y : Point) : Type 0 where
-  pub on-line : sideOf cs i y ≡ pos 0
-  pub from-start : pos 0 ≤ℤ dot (edge cs i) (whole (corner cs i) ⇢ y)
-  pub to-end : pos 0 ≤ℤ dot (edge cs i) (y ⇢ whole (corner cs (next (length cs) i)))
-
-abbrev pub LiesAt : List Corner → ℕ → Point → Type 0
-LiesAt cs b y = (Same y (whole (corner cs b)) ⊎ LiesOn cs (previous (length cs) b) y) ⊎ LiesOn cs b y
 
 same-test : (y z : Point) → (isSame y z ≡ true) ↔ Same y z
 same-test y z = Iff·trans (test-and _ _ (test-eqZ _ _) (test-eqZ _ _)) (
@@ -69,11 +60,10 @@ lies-at-test : (cs : List Corner) (b : ℕ) (y : Point) → (liesAt cs b y ≡ t
 unfolding liesAt
 lies-at-test cs b y = test-or _ _ (test-or _ _ (same-test y (whole (corner cs b))) (lies-on-test cs _ y)) (lies-on-test cs b y)
 
--- document 01's words, as propositions
-pub counted-means : (cs : List Corner) (b : ℕ) (v : Corner)
+counted-test : (cs : List Corner) (b : ℕ) (v : Corner)
     → (isCounted cs b v ≡ true) ↔ (Outside cs (whole v) × LiesAt cs b (nearest cs v .point))
 unfolding isCounted
-counted-means cs b v = test-and _ _ (outside-test cs v) (lies-at-test cs b (nearest cs v .point))
+counted-test cs b v = test-and _ _ (outside-test cs v) (lies-at-test cs b (nearest cs v .point))
 
 -- ---- the ends of an edge
 
@@ -87,7 +77,7 @@ no-part e y z long line up down =
     (O ≺ dotE e' e' ∷ crossE e' d' ≗ O ∷ O ≼ dotE e' d' ∷ dotE e' d' ≼ O ∷ []) (dotE d' d' ≼ O)
     (hyp 0 ⊠ hyp 1 ⊞ eqn 2 (crossE e' d') ⊞ hyp 3 ⊠ hyp 4) tt long line up down)
 
--- the edge's end seen from a point on its line
+-- seen from a point on an edge's line, the edge's end is on that line too
 line-back : (p q : Corner) (y : Point) → cross (p ⇀ q) (whole p ⇢ y) ≡ pos 0 → cross (p ⇀ q) (y ⇢ whole q) ≡ pos 0
 unfolding cross _⇀_ _⇢_
 line-back p q y =
@@ -106,14 +96,14 @@ module _ (cs : List Corner) (i : ℕ) where
   at-0 : (z : Point) → pos 0 ≤ℤ dot (edge cs i) (z ⇢ z)
   at-0 z = rw (dot-swap (edge cs i) (z ⇢ z), dot-self-0 z (edge cs i)) (≤ℤ-refl (pos 0))
 
-  along : pos 0 ≤ℤ dot (edge cs i) (whole p ⇢ whole q)
-  along = rw (whole-⇢ p q) (dot-self (edge cs i))
+  ahead : pos 0 ≤ℤ dot (edge cs i) (whole p ⇢ whole q)
+  ahead = rw (whole-⇢ p q) (dot-self (edge cs i))
 
   start-lies : LiesOn cs i (whole p)
-  start-lies = record { on-line = rw (whole-⇢ p p) (side-start p q); from-start = at-0 (whole p); to-end = along }
+  start-lies = record { on-line = rw (whole-⇢ p p) (side-start p q); from-start = at-0 (whole p); to-end = ahead }
 
   end-lies : LiesOn cs i (whole q)
-  end-lies = record { on-line = rw (whole-⇢ p q) (side-stop p q); from-start = along; to-end = at-0 (whole q) }
+  end-lies = record { on-line = rw (whole-⇢ p q) (side-stop p q); from-start = ahead; to-end = at-0 (whole q) }
 
 -- and so does a point strictly between them
 between-lies : {cs : List Corner} {i : ℕ} {y : Point} → Between cs i y → LiesOn cs i y
@@ -122,18 +112,21 @@ between-lies is = record { on-line = is .on-line; from-start = <ℤ-≤ℤ (is .
 -- ---- the nearest feature
 
 module _ {cs : List Corner} (polygon : Polygon cs) where
-  -- what holds of a feature that the point of an answer fits holds of the answer's, where v is outside the piece
-  module _ {v : Corner} {a : NearestPoint} (is : Answers cs v a) (outside : Outside cs (whole v)) (P : Feature → Type 0) where
-    fitting : (f : Feature) → Fits cs (whole v) (a .point) f → P f → P (a .feature)
-    fitting f fits =
-        let proper = is .nearest .in-piece .proper in
-        subst P (sym (fits-unique polygon (whole v) (a .feature) f proper proper (same-refl (a .point)) (is .fits) fits))
+  -- what holds of a feature that the nearest point y fits holds of the nearest feature
+  module _ {v : Corner} {y : Point} (near : Nearest cs (whole v) y) (outside : Outside cs (whole v))
+      (P : Feature → Type 0) where
+    fitting : (f : Feature) → Fits cs (whole v) y f → P f → P (feature cs v)
+    fitting f fits = subst P
+        (sym (fits-unique polygon (whole v) (nearest cs v .feature) f (nearest-is polygon v .nearest .in-piece .proper)
+        (near .in-piece .proper) (nearest-unique polygon (whole-proper v) (nearest-is polygon v .nearest) near)
+        (nearest-is polygon v .fits) fits)
+        ∙ values-feature cs v (feature cs v))
 
     -- a point of edge i is its start, its end, or strictly between
-    lying : (i : ℕ) → i < length cs → LiesOn cs i (a .point)
-        → P (Feature.Corner i) → P (Feature.Corner (next (length cs) i)) → P (Feature.Edge i) → P (a .feature)
+    lying : (i : ℕ) → i < length cs → LiesOn cs i y
+        → P (Feature.Corner i) → P (Feature.Corner (next (length cs) i)) → P (Feature.Edge i) → P (feature cs v)
     lying i below lies start end between =
-        let y = a .point in let e = edge cs i in let p = corner cs i in let j = next (length cs) i in let q = corner cs j in
+        let e = edge cs i in let p = corner cs i in let j = next (length cs) i in let q = corner cs j in
         let long = length-above-0 polygon i below in let known = next-below (length cs) i (omega arith) in
         elim (≤ℤ-or-<ℤ (dot e (whole p ⇢ y)) (pos 0)) [
           | inl first ↦ fitting (Feature.Corner i)
@@ -150,15 +143,17 @@ module _ {cs : List Corner} (polygon : Polygon cs) where
     abbrev n : ℕ
     n = length cs
 
-    -- the feature of a nearest point that lies at corner b is at that support corner
-    lies-at-support : {v : Corner} {a : NearestPoint} → Answers cs v a → Outside cs (whole v) × LiesAt cs b (a .point)
-        → AtSupport n b (a .feature)
-    lies-at-support is (outside, inl (inl same)) =
-        fitting is outside (AtSupport n b) (Feature.Corner b) (outside, below, same) (inl refl)
-    lies-at-support is (outside, inl (inr lies)) =
+    -- where the nearest point lies at corner b the nearest feature is at that support corner
+    lies-at-support : {v : Corner} {y : Point} → Nearest cs (whole v) y → Outside cs (whole v) → LiesAt cs b y
+        → AtSupport n b (feature cs v)
+    lies-at-support near outside (inl (inl same)) =
+        fitting near outside (AtSupport n b) (Feature.Corner b) (outside, below, same) (inl refl)
+    lies-at-support near outside (inl (inr lies)) =
         let into = next-previous n b below in
-        lying is outside (AtSupport n b) (previous n b) (previous-below n b below) lies (inr (inr into)) (inl into) (inr into)
-    lies-at-support is (outside, inr lies) = lying is outside (AtSupport n b) b below lies (inl refl) (inr (inl refl)) (inl refl)
+        lying near outside (AtSupport n b) (previous n b) (previous-below n b below) lies
+        (inr (inr into)) (inl into) (inr into)
+    lies-at-support near outside (inr lies) =
+        lying near outside (AtSupport n b) b below lies (inl refl) (inr (inl refl)) (inl refl)
 
     -- and back: a point of an edge at corner b lies at it
     edge-lies-at : (i : ℕ) {y : Point} → i < n → LiesOn cs i y → AtSupport n b (Feature.Edge i) → LiesAt cs b y
@@ -171,17 +166,26 @@ module _ {cs : List Corner} (polygon : Polygon cs) where
     corner-lies-at i known (inr (inl e)) = inr (rw e (end-lies cs b))
     corner-lies-at i known (inr (inr e)) = edge-lies-at i known (start-lies cs i) (inr e)
 
-    -- both ways, for a feature whose test holds
-    tested-at-support : (v : Corner) (f : Feature) → Tested cs v f
-        → (Outside cs (whole v) × LiesAt cs b (values cs v f .point)) ↔ AtSupport n b f
-    tested-at-support v Feature.Within holds =
-        (lies-at-support (tested-answers polygon v Feature.Within holds), λ none. absurd none)
-    tested-at-support v (Feature.Corner i) holds =
-        let is = tested-answers polygon v (Feature.Corner i) holds in let (outside, known, here) = is .fits in
-        (lies-at-support is, λ at-support. (outside, corner-lies-at i known at-support))
-    tested-at-support v (Feature.Edge i) holds =
-        let is = tested-answers polygon v (Feature.Edge i) holds in let (outside, known, between) = is .fits in
-        (lies-at-support is, λ at-support. (outside, edge-lies-at i known (between-lies between) at-support))
+    -- for a feature whose test holds
+    support-lies-at : (v : Corner) (f : Feature) → Tested cs v f → AtSupport n b f
+        → Outside cs (whole v) × LiesAt cs b (values cs v f .point)
+    support-lies-at v Feature.Within holds none = absurd none
+    support-lies-at v (Feature.Corner i) holds at-support =
+        let (outside, known, here) = tested-answers polygon v (Feature.Corner i) holds .fits in
+        (outside, corner-lies-at i known at-support)
+    support-lies-at v (Feature.Edge i) holds at-support =
+        let (outside, known, between) = tested-answers polygon v (Feature.Edge i) holds .fits in
+        (outside, edge-lies-at i known (between-lies between) at-support)
 
-  pub counted-iff : (b : ℕ) → b < length cs → (v : Corner) → (isCounted cs b v ≡ true) ↔ AtSupport (length cs) b (feature cs v)
-  counted-iff b below v = Iff·trans (counted-means cs b v) (tested-at-support b below v (feature cs v) (feature-tested cs v))
+    pub counted-iff : (v : Corner) → (isCounted cs b v ≡ true) ↔ AtSupport n b (feature cs v)
+    counted-iff v = Iff·trans (counted-test cs b v) (
+      λ (outside, lies). lies-at-support (nearest-is polygon v .nearest) outside lies,
+      support-lies-at v (feature cs v) (feature-tested cs v),
+    )
+
+    pub counts-iff : (v : Corner) → (isCounted cs b v ≡ true) ↔ Counts cs b v
+    counts-iff v = (
+      λ holds. let (outside, lies) = counted-test cs b v .0 holds in
+          record { outside = outside; lies-at = (nearest cs v .point, nearest-is polygon v .nearest, lies) },
+      λ counts. let (y, near, lies) = counts .lies-at in counted-iff v .1 (lies-at-support near (counts .outside) lies),
+    )

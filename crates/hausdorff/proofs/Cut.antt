@@ -1,16 +1,20 @@
--- A direction t cuts the order of directions: some are passed and the others lie ahead. One outline's support corner at a cut.
+-- A direction t cuts the order of directions: some are passed and the others lie ahead. One outline's support
+-- corner at a cut.
 --     Cut                  which directions are passed; with a direction those that it does not come before
 --     strict, weak         the directions before t; those that do not come after t
 --     Divided, divide      a list in two parts, the passed and those ahead; so it is where directions do not fall
---     CutAt, supportAt     an outline's edges in angular order, the passed and those ahead; the support corner between them
---     strict-support       where t lies from the edge into corner i to the edge out of it, the support corner at the strict cut is i
---                          unless the edge into i has t's direction
+--     CutAt, supportAt     an outline's edges in angular order, the passed and those ahead; the support corner
+--                          between them
+--     strict-support       where t lies from the edge into corner i to the edge out of it, the support corner at
+--                          the strict cut is i unless the edge into i has t's direction
 --     weak-end             at the weak cut the support corner is the end of an edge that has t's direction
---     strict-at-support, weak-at-support    a feature that is extreme in u is at the support corner of both cuts by u turned left
+--     strict-at-support, weak-at-support    a feature that is extreme in u is at the support corner of both cuts by
+--                                           u turned left
 use Prim.Native.Nat.{ℕ, _<_}
 use mathlib.Core.Path.{_≡_, refl, sym, ap, _∙_}
 use mathlib.Core.Logic.{_⊎_, inl, inr, ⊎-elim, ⊎-map, _↔_, Dec·not}
-use mathlib.Core.List.{List, [], _∷_, _++_, List·Memᴰ, List·Memᴰ·head, List·Memᴰ·tail, List·Memᴰ·cases-cons, List·Memᴰ·not-nil}
+use mathlib.Core.List.{List, [], _∷_, _++_, List·Memᴰ, List·Memᴰ·head, List·Memᴰ·tail, List·Memᴰ·cases-cons}
+use mathlib.Core.List.{List·Memᴰ·not-nil}
 use mathlib.Core.List.{List·Memᴰ·append-cases, Memᴰ·append-left, Memᴰ·append-right}
 use mathlib.Core.List.{Pairwise, Pairwise·of-cons, rel-of-pairwise-cons}
 use native.Mathlib.Omega.{arith}
@@ -21,9 +25,10 @@ use Rattle.outline.specs.Corners.{next, previous, edge}
 use Rattle.outline.proofs.CornersLaws.{next-below, next-other, previous-below, next-previous, previous-next}
 use Rattle.nearest.specs.declared.Feature.{Feature}
 use Rattle.nearest.specs.declared.Feature.the-variants as Feature
-use Rattle.lists.specs.Lists.{headOr}
+use Rattle.lists.specs.code.Lists.{headOr}
 use Rattle.plane.proofs.Halves.{NonZero}
-use Rattle.plane.proofs.DirectionLaws.{Before, Along, Apart, before?, along?, before-split, along-apart, Around, around-start, around-end}
+use Rattle.plane.proofs.DirectionLaws.{Before, Along, Apart, before?, along?, before-split, along-apart, Around}
+use Rattle.plane.proofs.DirectionLaws.{around-start, around-end}
 use Rattle.hausdorff.proofs.GoesRound.{GoesRound}
 use Rattle.hausdorff.proofs.Cyclic.{Rising, Cyclic, headOr-all, headOr-none, rising-head, followed}
 use Rattle.hausdorff.proofs.Extreme.{ExtremeFeature, AtSupport}
@@ -113,8 +118,9 @@ module _ {n : ℕ} {d : ℕ → Vector} (round : GoesRound n d) (i : ℕ) (below
     in-front j j-below passed =
         ⊎-elim (λ there. there) (λ there. absurd (here .ahead j there passed)) (List·Memᴰ·append-cases front (here .members j .1 j-below))
 
-    -- Where directions fall from the edge into corner i to the edge out of it, those are the last and the first: if the last is passed all
-    -- are, and if the first is not none is. Either way the support corner is the start of the first.
+    -- Where directions fall from the edge into corner i to the edge out of it, those are the last and the first: if
+    -- the last is passed all are, and if the first is not none is. Either way the support corner is the start of
+    -- the first.
     module _ (wraps : Before (d i) (d (previous n i))) where
       first : (j : ℕ) → j < n → ¬ Before (d j) (d i)
       first j j-below = rw into-next at (round .next-first (previous n i) j into-below j-below (rw into-next wraps))
@@ -135,8 +141,8 @@ module _ {n : ℕ} {d : ℕ → Vector} (round : GoesRound n d) (i : ℕ) (below
           ⊎-elim (λ passed. headOr-none _ rest (all-behind passed)) (λ not. headOr-all front rest (none-behind not)) which
           ∙ rising-head d (front ++ rest) i (here .rising) (here .members i .1 below) (λ j there. first j (here .members j .0 there))
 
-    -- Where t lies from the edge into corner i to the edge out of it, the support corner is i at a cut that passes the first if t does not
-    -- come before it, and leaves the second ahead if it does not come before t.
+    -- Where t lies from the edge into corner i to the edge out of it, the support corner is i at a cut that passes
+    -- the first if t does not come before it, and leaves the second ahead if it does not come before t.
     around-support : {t : Vector} → Around (d (previous n i)) (d i) t → (¬ Before t (d (previous n i)) → cut .Passed (d (previous n i)))
         → (¬ Before (d i) t → ¬ cut .Passed (d i)) → supportAt front rest ≡ i
     around-support around behind ahead = ⊎-elim

@@ -12,12 +12,13 @@ use native.Mathlib.Decide.{ℕ-discrete}
 use native.Mathlib.Omega.{arith}
 use mathlib.Core.Path.{_≡_, refl, sym, ap, _∙_}
 use mathlib.Core.Logic.{_↔_, _⊎_, ⊎-elim}
-use mathlib.Core.List.{List, [], _∷_, _++_, List·Memᴰ, List·Memᴰ·head, List·Memᴰ·tail, List·Memᴰ·cases-cons, List·Memᴰ·not-nil}
+use mathlib.Core.List.{List, [], _∷_, _++_, List·Memᴰ, List·Memᴰ·head, List·Memᴰ·tail, List·Memᴰ·cases-cons}
+use mathlib.Core.List.{List·Memᴰ·not-nil}
 use mathlib.Core.List.{List·Memᴰ·eq-of-singleton, Pairwise, Pairwise·of-cons, rel-of-pairwise-cons}
 use Rattle.plane.specs.declared.Vector.{Vector}
 use Rattle.outline.specs.Corners.{next}
 use Rattle.outline.proofs.CornersLaws.{next-below, next-other}
-use Rattle.lists.specs.Lists.{headOr}
+use Rattle.lists.specs.code.Lists.{headOr}
 use Rattle.plane.proofs.DirectionLaws.{Before, before-asym, before-trans, before-irrefl}
 use Rattle.hausdorff.proofs.GoesRound.{GoesRound}
 
@@ -83,7 +84,8 @@ module _ {n : ℕ} {d : ℕ → Vector} (round : GoesRound n d) where
   next-before-or-after : (i : ℕ) → i < n → Before (d (next n i)) (d i) ⊎ Before (d i) (d (next n i))
   next-before-or-after i known = round .distinct (next n i) i (next-known i) known (next-other n i (round .at-least))
 
-  -- Before z comes none, and `js` are those that come after i: i is followed by the first of these, or by z where there is none.
+  -- Before z comes none, and `js` are those that come after i: i is followed by the first of these, or by z where
+  -- there is none.
   module _ (z : ℕ) (z-known : z < n) (z-first : (k : ℕ) → k < n → ¬ Before (d k) (d z)) where
     cyclic-from : (i : ℕ) (js : List ℕ) → i < n → Rising d js → ((k : ℕ) → List·Memᴰ k js ↔ ((k < n) × Before (d i) (d k)))
         → Cyclic n z (i ∷ js)

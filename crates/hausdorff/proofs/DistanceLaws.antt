@@ -1,12 +1,12 @@
--- The greatest gap of the corners is the squared Hausdorff distance.
+-- The greatest gap of the corners of a side is the squared distance from its piece to the other.
 --     outward             the direction from the nearest point to a corner
 --     Extremes            it is not 0, and the corner and its nearest feature are both extreme in it
 --     greatest-extreme    so it is for a corner that has the greatest gap of its side, if it is outside the other piece
---     corners-reach       no point of a piece has a greater squared distance from its nearest point than some corner's gap
+--     corners-reach       no point of a piece has a greater squared distance from its nearest point than some
+--                         corner's gap
 --     greatest-directed   the greatest gap of a side's corners is the squared distance from its piece to the other
---     answer-hausdorff    the answer's gap is the squared Hausdorff distance
 use Prim.Native.Nat.{ℕ, _<_}
-use mathlib.Core.Path.{_≡_, ap}
+use mathlib.Core.Path.{_≡_}
 use mathlib.Core.List.{List, [], _∷_, _++_}
 use lib.IntN.{ℤ, pos, natAbs}
 use lib.ListN.{length}
@@ -20,39 +20,38 @@ use Rattle.integers.proofs.Certificate.{_≺_, _≗_, hyp, eqn, _⊞_, _⊠_, p
 use Rattle.plane.specs.declared.Corner.{Corner}
 use Rattle.plane.specs.declared.Point.{Point}
 use Rattle.plane.specs.declared.Vector.{Vector}
-use Rattle.plane.specs.Point.{whole, _⇢_}
+use Rattle.plane.specs.Point.{whole, _⇢_, squaredDistance}
 use Rattle.plane.specs.Vector.{_⇀_, cross, dot, coordinates}
 use Rattle.plane.proofs.Algebra.{O, vec, crossE, dotE, _⇀E_, dot-self}
 use Rattle.plane.proofs.Halves.{NonZero}
 use Rattle.plane.proofs.Points.{PointE, wholeE, _⇢E_, whole-proper}
-use Rattle.outline.specs.Convex.{Polygon}
+use Rattle.outline.specs.code.Polygon.{Polygon}
 use Rattle.outline.specs.Corners.{corner, edge}
 use Rattle.nearest.specs.declared.Feature.{Feature}
 use Rattle.nearest.specs.declared.Feature.the-variants as Feature
 use Rattle.nearest.specs.Feature.{footOn, values}
-use Rattle.nearest.specs.Local.{Tested, nearest, feature}
+use Rattle.nearest.specs.code.Local.{Tested, nearest, feature}
 use Rattle.nearest.specs.Nearest.{Nearest}
 use Rattle.nearest.specs.Piece.{InPiece, Outside}
-use Rattle.nearest.specs.Scaling.{nearestAt}
+use Rattle.nearest.specs.code.Scaling.{nearestAt}
 use Rattle.nearest.proofs.AnswerLaws.{feature-tested, tested-answers, gap-zero-iff}
-use Rattle.nearest.proofs.DistanceLaws.{gap-order}
+use Rattle.nearest.proofs.DistanceLaws.{gap-order, squaredDistance-is}
 use Rattle.outline.proofs.EdgeLaws.{length-above-0}
 use Rattle.nearest.proofs.NearestLaws.{nearest-bound, none-nearer}
 use Rattle.nearest.proofs.Scaling.{nearestAt-is}
 use Rattle.nearest.proofs.Support.{corner-in-piece, support}
 use Rattle.nearest.proofs.Walk.{edge-test}
 use Rattle.outline.specs.declared.Side.{Side}
-use Rattle.hausdorff.specs.declared.CornerGap.{CornerGap}
-use Rattle.hausdorff.specs.Pair.{Pair, other, Polygons}
-use Rattle.hausdorff.specs.CornerGap.{cornerGap}
-use Rattle.hausdorff.specs.Answer.{IsAnswer}
-use Rattle.hausdorff.specs.Hausdorff.{squaredDistance, DistanceAtMost, DistanceAtLeast, Directed, Hausdorff}
+use Rattle.hausdorff.specs.Pair.{Pair, other}
+use Rattle.hausdorff.specs.code.Pair.{Polygons}
+use Rattle.hausdorff.specs.code.CornerGap.{cornerGap}
+use Rattle.hausdorff.specs.Hausdorff.{DistanceAtMost, DistanceAtLeast, Directed}
 use Rattle.hausdorff.proofs.Extreme.{ExtremeCorner, ExtremeFeature, corner-extreme-iff}
-use Rattle.hausdorff.proofs.GapLaws.{gap-is, gap-iff, gap-distance, gap-positive}
-use Rattle.hausdorff.proofs.HalfPlane.{half-plane, not-ahead, gap-zero, squaredDistance-is}
+use Rattle.hausdorff.proofs.GapLaws.{gap-is, gap-distance, gap-positive}
+use Rattle.hausdorff.proofs.HalfPlane.{half-plane, not-ahead, gap-zero}
 
--- The vector to v from its foot on the line through p along e is square to e, and points to the right of e if v is strictly right of the
--- line. As expressions: p, v, e, and the foot's lower number, which is |e|².
+-- The vector to v from its foot on the line through p along e is square to e, and points to the right of e if v is
+-- strictly right of the line. As expressions: p, v, e, and the foot's lower number, which is |e|².
 foot-normal : (p v : Corner) (e : Vector) → NonZero e → cross e (p ⇀ v) <ℤ pos 0
     → let u = footOn p e (p ⇀ v) ⇢ whole v in (dot u e ≡ pos 0) × (pos 0 <ℤ cross u e)
 unfolding cross dot _⇀_ _⇢_
@@ -117,7 +116,8 @@ module _ (pair : Pair) (polygons : Polygons pair) where
             (nearest-bound polygon (inside .proper) nearest (gap-nearest s w below .in-piece)) (extreme p inside),
       )
 
-  -- so where no corner of a side has a gap above g, every point of its piece has one of the other at a squared distance of at most g
+  -- so where no corner of a side has a gap above g, every point of its piece has one of the other at a squared
+  -- distance of at most g
   at-most : (s : Side) (g : Fraction) → ((j : ℕ) → j < length (pair s) → NotGreater (cornerGap pair s j .gap) g)
       → DistanceAtMost g (pair s) (pair (other s))
   at-most s g most p inside =
@@ -144,13 +144,3 @@ module _ (pair : Pair) (polygons : Polygons pair) where
     at-most = at-most s (cornerGap pair s i .gap) greatest;
     at-least = at-least s i below;
   }
-
-  pub answer-hausdorff : (w : CornerGap) → IsAnswer pair w → Hausdorff pair (w .gap)
-  answer-hausdorff w is =
-      let s = w .side in let i = w .corner in
-      let same : w .gap ≡ cornerGap pair s i .gap = ap (λ (z : CornerGap). z .gap) (gap-iff pair polygons w .0 (is .is-gap) .1) in
-      record {
-        lower-positive = rw same (gap-positive pair polygons s i);
-        at-most = λ t. at-most t (w .gap) (λ j below. is .greatest (cornerGap pair t j) (gap-is pair polygons t j below) tt);
-        at-least = (s, rw same (at-least s i (is .is-gap .known)));
-      }

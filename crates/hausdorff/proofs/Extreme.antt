@@ -2,7 +2,8 @@
 --     ExtremeCorner    the edge into corner i does not fall in the direction u, and the edge out of it does not rise
 --     ExtremeEdge      u is normal to edge i and points outward
 --     ExtremeFeature   the one of the two that speaks of the feature
---     AtSupport        a feature is support corner b, one of its two neighbours, or one of the two edges that meet there
+--     AtSupport        a feature is support corner b, one of its two neighbours, or one of the two edges that meet
+--                      there
 -- For a polygon these are what the words say:
 --     corner-extreme-iff    no corner lies farther in the direction u than corner i
 --     edge-extreme-iff      both ends of edge i are extreme in u
@@ -24,7 +25,7 @@ use Rattle.plane.specs.Vector.{_⇀_, cross, dot, coordinates}
 use Rattle.plane.proofs.Algebra.{O, vec, crossE, dotE, _⇀E_, components, dot-back}
 use Rattle.plane.proofs.Halves.{NonZero}
 use Rattle.plane.proofs.Points.{whole-⇢}
-use Rattle.outline.specs.Convex.{Polygon}
+use Rattle.outline.specs.code.Polygon.{Polygon}
 use Rattle.outline.specs.Corners.{corner, next, previous, edge}
 use Rattle.outline.proofs.CornersLaws.{next-below, previous-below, next-previous, previous-next}
 use Rattle.nearest.specs.declared.Feature.{Feature}
@@ -58,8 +59,9 @@ dot-forth u p q =
     let u' = vec 0 in let p' = vec 2 in let q' = vec 4 in
     prove (u .x ∷ u .y ∷ coordinates (p ∷ q ∷ [])) (O ≼ dotE u' (p' ⇀E q') ∷ []) (dotE u' (q' ⇀E p') ≼ O) (hyp 0 ⊞ hyp 1) tt
 
--- Let u be normal to an edge e, p the edge before it and f the edge after. By Lagrange's identity, cross u e times cross p e is dot u p
--- times |e|². So u points outward exactly where it does not fall along p, and then it does not rise along f.
+-- Let u be normal to an edge e, p the edge before it and f the edge after. By Lagrange's identity, cross u e times
+-- cross p e is dot u p times |e|². So u points outward exactly where it does not fall along p, and then it does not
+-- rise along f.
 module _ (u p e : Vector) where
   normal-before : pos 0 <ℤ cross p e → dot u e ≡ pos 0 → pos 0 <ℤ cross u e → pos 0 ≤ℤ dot u p
   unfolding cross dot

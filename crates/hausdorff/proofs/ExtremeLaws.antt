@@ -1,5 +1,5 @@
--- What is extreme in a direction u, told from the order of directions. It turns on t, which is u turned left by a right angle: an edge
--- rises in the direction u where t is on its left, and falls where t is on its right.
+-- What is extreme in a direction u, told from the order of directions. It turns on t, which is u turned left by a
+-- right angle: an edge rises in the direction u where t is on its left, and falls where t is on its right.
 --     turned, turned-some         t; it is not 0
 --     corner-around               at a corner that is extreme in u, t lies from the edge into it to the edge out of it
 --     edge-along                  an edge that is extreme in u has t's direction

@@ -1,12 +1,12 @@
--- The natural numbers of an answer fit an i64: none is above 2,048,000,000 squared, which is below 2^63. (X and Y of its point are i64 in the
--- code, and the steps u32.)
---     values-fit       of what document 01 lays down for a feature of an accepted outline and a point in range
+-- The natural numbers of an answer fit an i64: none is above 2,048,000,000 squared, which is below 2^63. (X and Y
+-- of its point are i64 in the code, and the steps u32.)
+--     values-fit       of what rule 3.4 lays down for a feature of an accepted outline and a point in range
 --     answers-fit      so of the nearest point
 --     corner-fits      and of a corner with its gap to the other outline
 --     found-fits       what the call for the nearest point answers
 --     report-fits      what the call that compares reports
 use Prim.Native.Nat.{ℕ, zero, suc, zero-le, _*_, _^_, _≤_, _<_}
-use mathlib.Core.Path.{_≡_, refl, sym, subst}
+use mathlib.Core.Path.{_≡_, sym, subst}
 use mathlib.Core.List.{List}
 use native.Mathlib.Nat.{le-trans, lt-of-le-of-lt, lt-of-lt-of-le, le-mul-of-pos-right}
 use native.Mathlib.Omega.{arith}
@@ -28,7 +28,7 @@ use Rattle.nearest.specs.declared.Feature.{Feature}
 use Rattle.nearest.specs.declared.Feature.the-variants as Feature
 use Rattle.nearest.specs.declared.NearestPoint.{NearestPoint}
 use Rattle.nearest.specs.declared.NearestAnswer.the-variants.{Found}
-use Rattle.nearest.specs.Call.{nearestAnswer}
+use Rattle.nearest.specs.code.Call.{nearestAnswer}
 use Rattle.nearest.specs.Feature.{values}
 use Rattle.nearest.specs.Nearest.{Fits, Answers}
 use Rattle.nearest.proofs.CallLaws.{nearest-answers}
@@ -42,14 +42,18 @@ use Rattle.hausdorff.specs.declared.Done.{Done}
 use Rattle.hausdorff.specs.declared.Report.{Report}
 use Rattle.hausdorff.specs.declared.Report.the-variants as Report
 use Rattle.hausdorff.specs.declared.Comparison.the-variants.{Reported}
-use Rattle.hausdorff.specs.Pair.{Pair, AcceptedPair, other}
+use Rattle.hausdorff.specs.Pair.{Pair, other}
+use Rattle.hausdorff.specs.code.Pair.{AcceptedPair}
 use Rattle.hausdorff.specs.Answer.{IsGap}
-use Rattle.hausdorff.specs.Sweep.{after}
+use Rattle.hausdorff.specs.Support.{supportAfter}
+use Rattle.hausdorff.specs.Counted.{IsWorst}
 use Rattle.hausdorff.specs.Law.{OfDone, OfSpent, Law}
 use Rattle.hausdorff.specs.Call.{IsComparison}
+use Rattle.hausdorff.proofs.Law.{law-done, law-spent}
 use Rattle.hausdorff.proofs.CallLaws.{both-accepted, reported-means}
 use Rattle.hausdorff.proofs.WorstLaws.{support-known}
-use Rattle.hausdorff.specs.Sizes.{FitsI64, NearestFits, CornerFits, WorstFits, DoneFits, SpentFits, ReportFits}
+use Rattle.hausdorff.specs.code.Sizes.{FitsI64, NearestFits, CornerFits, WorstFits, DoneFits, SpentFits}
+use Rattle.hausdorff.specs.code.Sizes.{ReportFits}
 
 -- a number of known size
 bounded-fits : {b : ℕ} {z : ℤ} → AtMost b z → T (ltb b (2 ^ 63)) → FitsI64 (natAbs z)
@@ -95,26 +99,26 @@ module _ {pair : Pair} (ok : AcceptedPair pair) where
     nearest = answers-fit (ok (other (w .side))) (ok (w .side) .in-range (w .corner) (is .known)) (is .answers);
   }
 
-  worst-fits : (x : WorstSoFar) → ((w : CornerGap) → x ≡ Worst w → IsGap pair w) → WorstFits x
-  worst-fits None is = tt
-  worst-fits (Worst w) is = corner-fits (is w refl)
+  worst-fits : (k : ℕ) (x : WorstSoFar) → IsWorst pair k x → WorstFits x
+  worst-fits k None is = tt
+  worst-fits k (Worst w) leads = corner-fits (leads .is-gap)
 
-  of-done-fits : {n : ℕ} {d : Done} → OfDone pair n d → DoneFits d
+  of-done-fits : {d : Done} → OfDone pair d → DoneFits d
   of-done-fits {d} of =
       let answer = corner-fits (of .as-defined .is-gap) in record {
         answer = answer;
         clearance = lt-of-le-of-lt (le-trans (root-small (d .clearance) (d .answer .gap .lower) (of .distance .lower-positive))
-            (of .clearance-figure .not-above)) (answer .nearest .upper);
+            (of .clearance .not-above)) (answer .nearest .upper);
       }
 
-  support-fits : (k : ℕ) (s : Side) → FitsI64 (after pair k .support s)
+  support-fits : (k : ℕ) (s : Side) → FitsI64 (supportAfter pair k s)
   support-fits k s = number-fits (ok s) _ (support-known pair (λ t. accepted-polygon (ok t)) k s)
 
   of-spent-fits : {n : ℕ} {p : Spent} → OfSpent pair n p → SpentFits p
   of-spent-fits {n} {p} of = record {
-    support-a = rw (of .laid-down) (support-fits n A);
-    support-b = rw (of .laid-down) (support-fits n B);
-    worst = worst-fits (p .worst) (λ w is. of .worst-counted w is .is-gap);
+    support-a = rw (of .support-a) (support-fits n A);
+    support-b = rw (of .support-b) (support-fits n B);
+    worst = worst-fits n (p .worst) (of .worst);
   }
 
 pub report-fits : (s t : List ℤ) (allowance : ℕ) (q : Report) → IsComparison s t allowance (Reported q) → ReportFits q
@@ -123,5 +127,5 @@ report-fits s t allowance q is =
     by-report (both-accepted _ _ (ok-a .1) (ok-b .1)) q lawful
   where
     by-report : {pair : Pair} → AcceptedPair pair → (q : Report) → Law pair allowance q → ReportFits q
-    by-report ok (Report.Spent p) lawful = of-spent-fits ok (lawful .of-spent p refl)
-    by-report ok (Report.Done d) lawful = of-done-fits ok (lawful .of-done d refl)
+    by-report ok (Report.Spent p) lawful = of-spent-fits ok (law-spent lawful .1)
+    by-report ok (Report.Done d) lawful = of-done-fits ok (law-done lawful .1)

@@ -3,7 +3,6 @@
 --     gap-is              so it is a gap
 --     gap-distance        it is the squared distance of its point
 --     gap-positive, gap-lower    its lower number is above 0
---     gap-none-nearer     no point of the other piece is nearer to the corner than that point
 --     least-iff           a gap is not greater than that of a corner within exactly where its own corner is within
 use Prim.Native.Nat.{ℕ, _<_}
 use mathlib.Core.Path.{_≡_, refl, sym, ap, subst}
@@ -12,20 +11,20 @@ use lib.ListN.{length}
 use Rattle.integers.specs.Fraction.{NotGreater}
 use Rattle.integers.proofs.FractionOrder.{notGreater-zero}
 use Rattle.outline.specs.Corners.{corner}
-use Rattle.nearest.specs.Nearest.{Answers, SquaredDistance}
-use Rattle.nearest.specs.Local.{nearest}
+use Rattle.nearest.specs.Nearest.{Answers}
+use Rattle.nearest.proofs.DistanceLaws.{IsSquaredDistance}
+use Rattle.nearest.specs.code.Local.{nearest}
 use Rattle.nearest.proofs.AnswerLaws.{answers-iff, nearest-distance, gap-zero-iff}
 use Rattle.hausdorff.specs.declared.CornerGap.{CornerGap}
 use Rattle.outline.specs.declared.Side.{Side}
-use Rattle.hausdorff.specs.Pair.{Pair, other, Polygons}
-use Rattle.hausdorff.specs.CornerGap.{withCorner, nearestOf, cornerGap}
+use Rattle.hausdorff.specs.Pair.{Pair, other}
+use Rattle.hausdorff.specs.code.Pair.{Polygons}
+use Rattle.hausdorff.specs.CornerGap.{withCorner, nearestOf}
+use Rattle.hausdorff.specs.code.CornerGap.{cornerGap}
 use Rattle.hausdorff.specs.Answer.{IsGap}
 use lib.Dec.{ltb→lt}
-use Rattle.plane.specs.declared.Point.{Point}
-use Rattle.plane.specs.Point.{whole, NotFarther}
-use Rattle.plane.proofs.Points.{whole-proper}
+use Rattle.plane.specs.Point.{whole}
 use Rattle.nearest.specs.Piece.{InPiece}
-use Rattle.nearest.proofs.NearestLaws.{none-nearer}
 
 module _ (pair : Pair) (polygons : Polygons pair) where
   -- both say what is nearest to the corner; the rest of w is its name
@@ -44,7 +43,7 @@ module _ (pair : Pair) (polygons : Polygons pair) where
   gap-is s i below = gap-iff (cornerGap pair s i) .1 (below, refl)
 
   -- and the squared distance of its point
-  pub gap-distance : (s : Side) (i : ℕ) → SquaredDistance (whole (corner (pair s) i)) (cornerGap pair s i .point) (cornerGap pair s i .gap)
+  pub gap-distance : (s : Side) (i : ℕ) → IsSquaredDistance (whole (corner (pair s) i)) (cornerGap pair s i .point) (cornerGap pair s i .gap)
   gap-distance s i = nearest-distance (polygons (other s)) (corner (pair s) i)
 
   -- a squared distance has a lower number above 0
@@ -55,12 +54,6 @@ module _ (pair : Pair) (polygons : Polygons pair) where
   pub gap-lower : (z : CornerGap) → IsGap pair z → 0 < z .gap .lower
   gap-lower z is =
       subst (λ (x : CornerGap). 0 < x .gap .lower) (sym (gap-iff z .0 is .1)) (gap-positive (z .side) (z .corner))
-
-  -- a gap is that of the nearest point
-  pub gap-none-nearer : (w : CornerGap) → IsGap pair w → (z : Point) → InPiece (pair (other (w .side))) z
-      → NotFarther (whole (corner (pair (w .side)) (w .corner))) (w .point) z
-  gap-none-nearer w is z =
-      none-nearer (polygons (other (w .side))) (whole-proper (corner (pair (w .side)) (w .corner))) (is .answers .nearest)
 
   -- a gap that is not greater than that of a corner within is that of a corner within
   pub least-iff : (s t : Side) (i j : ℕ) → InPiece (pair (other t)) (whole (corner (pair t) j))

@@ -1,4 +1,5 @@
--- The directions of an outline's edges go round once. The laws of the order, the cuts and the sweep's support corners rest on this alone.
+-- The directions of an outline's edges go round once. The laws of the order, the cuts and the sweep's support
+-- corners rest on this alone.
 --     GoesRound            n directions go round once
 --     polygon-goes-round   the directions of a polygon go round
 --     segment-goes-round   and so do two opposite ones, those of a segment there and back
@@ -17,7 +18,7 @@ use Rattle.plane.specs.declared.Corner.{Corner}
 use Rattle.plane.specs.declared.Vector.{Vector}
 use Rattle.plane.specs.Vector.{_⇀_, cross, dot, side, coordinates}
 use Rattle.plane.proofs.Algebra.{O, vec, crossE, dotE, _⇀E_, sideE, apart-0}
-use Rattle.outline.specs.Convex.{Polygon}
+use Rattle.outline.specs.code.Polygon.{Polygon}
 use Rattle.outline.specs.Corners.{next, edge}
 use Rattle.outline.proofs.CornersLaws.{next-below, next-other}
 use Rattle.nearest.proofs.Support.{not-right, turns-on}
@@ -39,8 +40,8 @@ pub record GoesRound (n : ℕ) (d : ℕ → Vector) : Type 0 where
 
 -- ---- a polygon
 
--- The edges from p to c and from c to r turn left. An edge from a to b between them in direction, with a not right of the first and b not
--- right of the second, has c on its right (`cramer-cross`).
+-- The edges from p to c and from c to r turn left. An edge from a to b between them in direction, with a not right
+-- of the first and b not right of the second, has c on its right (`cramer-cross`).
 none-within : (p c r a b : Corner) → pos 0 <ℤ cross (p ⇀ c) (c ⇀ r) → pos 0 ≤ℤ side p c a → pos 0 ≤ℤ side c r b → pos 0 ≤ℤ side a b c
     → ¬ ((pos 0 <ℤ cross (p ⇀ c) (a ⇀ b)) × (pos 0 <ℤ cross (a ⇀ b) (c ⇀ r)))
 unfolding cross _⇀_
@@ -51,7 +52,8 @@ none-within p c r a b turn from to corner (left, right) =
     ∷ O ≺ crossE (p' ⇀E c') (a' ⇀E b') ∷ O ≺ crossE (a' ⇀E b') (c' ⇀E r') ∷ [])
     (hyp 0 ⊠ hyp 3 ⊞ hyp 1 ⊠ hyp 5 ⊞ hyp 2 ⊠ hyp 4 ⊞ hyp 4 ⊠ hyp 5) tt turn from to corner left right
 
--- of two parallel edges that point the same way, the second starts left of the first only if the first starts right of the second
+-- of two parallel edges that point the same way, the second starts left of the first only if the first starts right
+-- of the second
 parallel-right : (p q a b : Corner) → cross (p ⇀ q) (a ⇀ b) ≡ pos 0 → pos 0 <ℤ dot (p ⇀ q) (a ⇀ b) → pos 0 <ℤ side p q a
     → side a b p <ℤ pos 0
 unfolding cross dot _⇀_

@@ -1,32 +1,30 @@
--- Squared distances. Seen along v - y a point is behind another if it lies less far in that direction, and ahead if farther.
+-- Squared distances. Seen along v - y a point is behind another if it lies less far in that direction, and ahead if
+-- farther.
 --     half-plane            if z is not ahead of y, and w not behind v, then w is not nearer to z than v is to y
 --     not-ahead             so if w is not farther from z than v is from y, it is not ahead of v
 --     gap-zero              points that are not apart have the squared distance 0
---     squaredDistance-is    `squaredDistance` is the squared distance of two points with lower numbers above 0
 use Prim.Native.Nat.{_≤_}
-use mathlib.Core.Path.{_≡_, ap, _∙_}
+use mathlib.Core.Path.{_≡_}
 use mathlib.Core.List.{List, [], _∷_, _++_}
 use native.Mathlib.Omega.{arith}
 use lib.Dec.{T}
-use lib.IntN.{ℤ, pos, _*ℤ_}
+use lib.IntN.{ℤ, pos}
 use lib.Signed.{_≤ℤ_}
 use Rattle.integers.specs.declared.fraction.Fraction.{Fraction}
 use Rattle.integers.specs.Fraction.{NotGreater}
-use Rattle.integers.proofs.Order.{natAbs-nonneg, *ℤ-pos}
 use Rattle.integers.proofs.Polynomial.{var, lit, _⊖_, _⊗_, ⊝_}
 use Rattle.integers.proofs.Certificate.{Claim, _≺_, _≼_, _≗_, Holds, Cert, hyp, num, sq, eqn, _⊞_, _⊠_, proves, prove}
 use Rattle.integers.proofs.Reflect.{≤-≤ℤ}
-use Rattle.integers.proofs.Ring.{*ℤ-assoc}
 use Rattle.plane.specs.declared.Point.{Point}
-use Rattle.plane.specs.Point.{Proper, _⇢_}
+use Rattle.plane.specs.Point.{_⇢_}
 use Rattle.plane.specs.Vector.{dot}
-use Rattle.plane.proofs.Algebra.{O, dotE, dot-self}
+use Rattle.plane.proofs.Algebra.{O, dotE}
 use Rattle.plane.proofs.Points.{pt, _⇢E_, numbers}
-use Rattle.nearest.specs.Nearest.{SquaredDistance}
-use Rattle.hausdorff.specs.Hausdorff.{squaredDistance}
+use Rattle.nearest.proofs.DistanceLaws.{IsSquaredDistance}
 
--- |w - z|² - |v - y|² = 2 (v - y)·(w - v) - 2 (v - y)·(z - y) + |(w - v) - (z - y)|², for g = a/k = |v - y|² and h = b/l = |w - z|²
-module _ {v y w z : Point} {g h : Fraction} (at-y : SquaredDistance v y g) (at-z : SquaredDistance w z h)
+-- |w - z|² - |v - y|² = 2 (v - y)·(w - v) - 2 (v - y)·(z - y) + |(w - v) - (z - y)|², for g = a/k = |v - y|² and h
+-- = b/l = |w - z|²
+module _ {v y w z : Point} {g h : Fraction} (at-y : IsSquaredDistance v y g) (at-z : IsSquaredDistance w z h)
     (behind : dot (y ⇢ v) (y ⇢ z) ≤ℤ pos 0) where
   -- one certificate serves both ways
   both : (dot (y ⇢ v) (w ⇢ v) ≤ℤ pos 0 → NotGreater g h) × (NotGreater h g → dot (y ⇢ v) (v ⇢ w) ≤ℤ pos 0)
@@ -58,7 +56,7 @@ module _ {v y w z : Point} {g h : Fraction} (at-y : SquaredDistance v y g) (at-z
   not-ahead = both .1
 
 -- with a/k for g, and d for |v - y|² times the squares of the lower numbers r and t
-pub gap-zero : {v y : Point} {g : Fraction} → SquaredDistance v y g → dot (y ⇢ v) (y ⇢ v) ≤ℤ pos 0 → g .upper ≡ 0
+pub gap-zero : {v y : Point} {g : Fraction} → IsSquaredDistance v y g → dot (y ⇢ v) (y ⇢ v) ≤ℤ pos 0 → g .upper ≡ 0
 gap-zero {v} {y} {g} at-y close =
     let a = var 0 in let k = var 1 in let d = var 2 in let r = var 3 in let t = var 4 in
     let none : g .upper ≤ 0 = ≤-≤ℤ (g .upper) 0 .1 (prove
@@ -67,14 +65,3 @@ gap-zero {v} {y} {g} at-y close =
     (hyp 0 ⊠ hyp 3 ⊠ hyp 3 ⊠ hyp 4 ⊠ hyp 4 ⊞ hyp 2 ⊠ hyp 5 ⊞ eqn 1 (lit (pos 1))) tt
     (at-y .equal) (at-y .lower-positive) (at-y .to-proper) (at-y .from-proper) close) in
     omega arith
-
--- the upper number is the size of a sum of squares, and so that sum
-pub squaredDistance-is : (p q : Point) → Proper p → Proper q → SquaredDistance p q (squaredDistance p q)
-squaredDistance-is p q from to =
-    let r = pos (q .lower) *ℤ pos (p .lower) in let above = *ℤ-pos to from in
-    record {
-      from-proper = from;
-      to-proper = to;
-      lower-positive = *ℤ-pos above above;
-      equal = *ℤ-assoc (pos (squaredDistance p q .upper)) r r ∙ ap (λ z. z *ℤ (r *ℤ r)) (natAbs-nonneg (dot-self (q ⇢ p)));
-    }

@@ -1,29 +1,37 @@
--- Document 01, demand 3, for every accepted pair and every allowance.
---     law    what comparing returns obeys the law
+-- Rule 6.4, the law, for every accepted pair and every allowance.
+--     law                     what comparing returns obeys it
+--     law-spent, law-done     what it says of a spent report, and of a done one
+--     law-unique              it leaves one report
 use Prim.Native.Nat.{ℕ, _<_, _≤_}
-use mathlib.Core.Path.{_≡_, refl}
-use mathlib.Core.Bool.{Bool, true, false, cond}
+use mathlib.Core.Path.{_≡_, refl, sym, ap, subst, _∙_}
+use mathlib.Core.Logic.{_⊎_, inl, inr, ⊎-elim}
+use mathlib.Core.Bool.{Bool, true, false}
 use native.Mathlib.Omega.{arith}
 use borrow.Author.Tests.{lt-ltb, le-ltb, ltb-true, ltb-false}
 use lib.Dec.{ltb}
-use Rattle.integers.proofs.RootLaws.{floor-root}
+use Rattle.integers.specs.Root.{FloorRoot}
+use Rattle.integers.proofs.RootLaws.{floor-root, floor-unique}
 use Rattle.outline.proofs.EdgeLaws.{accepted-polygon}
 use Rattle.hausdorff.specs.declared.Spent.{Spent}
 use Rattle.hausdorff.specs.declared.Done.{Done}
 use Rattle.hausdorff.specs.declared.CornerGap.{CornerGap}
 use Rattle.hausdorff.specs.declared.Report.{Report}
 use Rattle.hausdorff.specs.declared.Report.the-variants as Report
-use Rattle.hausdorff.specs.Pair.{Pair, AcceptedPair, Polygons, stepCount}
-use Rattle.hausdorff.specs.Answer.{IsAnswer, TrueFigure}
-use Rattle.hausdorff.specs.Report.{answer, spent, done, report}
+use Rattle.hausdorff.specs.declared.WorstSoFar.{WorstSoFar}
+use Rattle.hausdorff.specs.declared.WorstSoFar.the-variants.{Worst}
+use Rattle.hausdorff.specs.Pair.{Pair, stepCount}
+use Rattle.hausdorff.specs.Answer.{IsGap, IsAnswer, TrueFigure}
+use Rattle.hausdorff.specs.Counted.{IsWorst}
 use Rattle.hausdorff.specs.Exhaustive.{exhaustive}
 use Rattle.hausdorff.specs.Law.{OfDone, OfSpent, Law}
-use Rattle.hausdorff.proofs.OverallWorst.{worst-counted, none-counted}
+use Rattle.hausdorff.specs.code.Pair.{AcceptedPair, Polygons}
+use Rattle.hausdorff.specs.code.Sweep.{worstSoFar}
+use Rattle.hausdorff.specs.code.Report.{answer, spent, done, report}
+use Rattle.hausdorff.proofs.OverallWorst.{worst-is, worst-unique}
 use Rattle.hausdorff.proofs.AnswerLaws.{answer-unique, sweep-answers, search-answers}
-use Rattle.hausdorff.proofs.DistanceLaws.{answer-hausdorff}
-use Rattle.hausdorff.proofs.GapLaws.{gap-none-nearer}
+use Rattle.hausdorff.proofs.HausdorffLaws.{answer-hausdorff}
 
-module _ (pair : Pair) (accepted : AcceptedPair pair) (allowance : ℕ) where
+module _ (pair : Pair) (accepted : AcceptedPair pair) where
   polygons : Polygons pair
   polygons s = accepted-polygon (accepted s)
 
@@ -31,56 +39,99 @@ module _ (pair : Pair) (accepted : AcceptedPair pair) (allowance : ℕ) where
   found : IsAnswer pair (answer pair)
   found = sweep-answers pair polygons
 
-  searched : answer pair ≡ exhaustive pair
-  searched = answer-unique pair polygons (answer pair) (exhaustive pair) found (search-answers pair polygons)
+  found-searched : answer pair ≡ exhaustive pair
+  found-searched = answer-unique pair polygons (answer pair) (exhaustive pair) found (search-answers pair polygons)
 
   -- its gap is the greatest
   figure-of : (w : CornerGap) → IsAnswer pair w → TrueFigure pair (w .gap)
   figure-of w is = record { reached = (w, is .is-gap, refl); greatest = λ z gap. is .greatest z gap tt }
 
-  of-done : stepCount pair ≤ allowance → OfDone pair allowance (done pair)
-  of-done enough = let distance = answer-hausdorff pair polygons (answer pair) found in record {
-    enough = enough;
-    laid-down = refl;
+  of-done : OfDone pair (done pair)
+  of-done = let distance = answer-hausdorff pair polygons (answer pair) found in record {
+    steps = refl;
+    from-steps = (worstSoFar pair (stepCount pair), worst-is pair polygons (stepCount pair), refl);
     as-defined = found;
-    as-searched = searched;
-    none-nearer = gap-none-nearer pair polygons (answer pair) (found .is-gap);
+    as-searched = found-searched;
     figure = figure-of (answer pair) found;
     distance = distance;
-    clearance-figure = floor-root (answer pair .gap) (distance .lower-positive);
+    clearance = floor-root (answer pair .gap) (distance .lower-positive);
   }
 
   -- a gap that counts is a corner's
-  of-spent : allowance < stepCount pair → OfSpent pair allowance (spent pair allowance)
-  of-spent below = let counted = worst-counted pair polygons allowance in record {
-    below = below;
-    laid-down = refl;
-    worst-counted = counted;
-    none-counted = none-counted pair polygons allowance;
+  of-spent : (allowance : ℕ) → OfSpent pair allowance (spent pair allowance)
+  of-spent allowance = let worst = worst-is pair polygons allowance in record {
+    steps = refl;
+    support-a = refl;
+    support-b = refl;
+    worst = worst;
     figure = figure-of (exhaustive pair) (search-answers pair polygons);
-    worst-not-above = λ w g equal figure. figure .greatest w (counted w equal .is-gap);
+    worst-not-above = λ w g equal figure. figure .greatest w (is-gap equal worst);
   }
+    where
+      is-gap : {x : WorstSoFar} {w : CornerGap} → x ≡ Worst w → IsWorst pair allowance x → IsGap pair w
+      is-gap is worst = subst (IsWorst pair allowance) is worst .is-gap
 
-  -- what is reported by the test whether the allowance is below N
-  abbrev reportIf : Bool → Report
-  reportIf t = cond t (Report.Spent (spent pair allowance)) (Report.Done (done pair))
-
-  -- a done report is no spent one, so it tells that the test fails, and a spent one that it holds
-  when-done : (t : Bool) → ltb allowance (stepCount pair) ≡ t
-      → (d : Done) → reportIf t ≡ Report.Done d → OfDone pair allowance d
-  when-done true holds d is = absurd (let z : _≡_ {A = ℕ} 0 1 = cc in omega arith)
-  when-done false fails d is = let same : d ≡ done pair = cc in rw same (of-done (ltb-false _ _ fails))
-
-  when-spent : (t : Bool) → ltb allowance (stepCount pair) ≡ t
-      → (p : Spent) → reportIf t ≡ Report.Spent p → OfSpent pair allowance p
-  when-spent true holds p is = let same : p ≡ spent pair allowance = cc in rw same (of-spent (ltb-true _ _ holds))
-  when-spent false fails p is = absurd (let z : _≡_ {A = ℕ} 0 1 = cc in omega arith)
-
-  pub law : Law pair allowance (report pair allowance)
+  pub law : (allowance : ℕ) → Law pair allowance (report pair allowance)
   unfolding report
-  law = let below = ltb allowance (stepCount pair) in record {
-    spent-below = λ less. rw (lt-ltb allowance (stepCount pair) less);
-    else-done = λ enough. rw (le-ltb allowance (stepCount pair) enough);
-    of-done = when-done below refl;
-    of-spent = when-spent below refl;
+  law allowance = record {
+    spent-below = λ less. (spent pair allowance, rw (lt-ltb allowance (stepCount pair) less), of-spent allowance);
+    else-done = λ enough. (done pair, rw (le-ltb allowance (stepCount pair) enough), of-done);
   }
+
+done-unique : {pair : Pair} {d e : Done} → OfDone pair d → OfDone pair e → d ≡ e
+done-unique {d = d} {e} one other =
+    let answers : d .answer ≡ e .answer = one .as-searched ∙ sym (other .as-searched) in
+    let gaps = ap (λ (w : CornerGap). w .gap) answers in λ i. record {
+      steps = (one .steps ∙ sym (other .steps)) i;
+      answer = answers i;
+      clearance = floor-unique (one .clearance)
+          (subst (λ x. FloorRoot x (e .clearance)) (sym gaps) (other .clearance)) i;
+    }
+
+spent≢done : (p : Spent) (d : Done) → ¬ (Report.Spent p ≡ Report.Done d)
+spent≢done p d is = let z : _≡_ {A = ℕ} 0 1 = cc in omega arith
+
+-- spent or done, by the allowance
+abbrev SpentOrDone : Pair → ℕ → Report → Type 0
+SpentOrDone pair allowance r =
+    ((allowance < stepCount pair) × ((p : Spent) × (r ≡ Report.Spent p) × OfSpent pair allowance p))
+    ⊎ ((stepCount pair ≤ allowance) × ((d : Done) × (r ≡ Report.Done d) × OfDone pair d))
+
+module _ {pair : Pair} {allowance : ℕ} where
+  law-cases : {r : Report} → Law pair allowance r → SpentOrDone pair allowance r
+  law-cases {r} lawful = go (ltb allowance (stepCount pair)) refl
+    where
+      go : (t : Bool) → ltb allowance (stepCount pair) ≡ t → SpentOrDone pair allowance r
+      go true holds = let below = ltb-true _ _ holds in inl (below, lawful .spent-below below)
+      go false fails = let enough = ltb-false _ _ fails in inr (enough, lawful .else-done enough)
+
+  pub law-spent : {p : Spent} → Law pair allowance (Report.Spent p)
+      → (allowance < stepCount pair) × OfSpent pair allowance p
+  law-spent {p} lawful = ⊎-elim
+      (λ (below, (q, is, of)). (let same : p ≡ q = cc in (below, rw same of)))
+      (λ (enough, (d, is, of)). absurd (spent≢done p d is)) (law-cases lawful)
+
+  pub law-done : {d : Done} → Law pair allowance (Report.Done d) → (stepCount pair ≤ allowance) × OfDone pair d
+  law-done {d} lawful = ⊎-elim
+      (λ (below, (p, is, of)). absurd (spent≢done p d (sym is)))
+      (λ (enough, (e, is, of)). (let same : d ≡ e = cc in (enough, rw same of))) (law-cases lawful)
+
+  module _ (polygons : Polygons pair) where
+    spent-unique : {p q : Spent} → OfSpent pair allowance p → OfSpent pair allowance q → p ≡ q
+    spent-unique {p} {q} one other = λ i. record {
+      steps = (one .steps ∙ sym (other .steps)) i;
+      support = record {
+        a = (one .support-a ∙ sym (other .support-a)) i;
+        b = (one .support-b ∙ sym (other .support-b)) i;
+      };
+      worst = worst-unique pair polygons allowance (p .worst) (q .worst) (one .worst) (other .worst) i;
+    }
+
+    -- what holds of it leaves one
+    pub law-unique : {r q : Report} → Law pair allowance r → Law pair allowance q → r ≡ q
+    law-unique one other = ⊎-elim
+        (λ (below, (p, is, of)). (let (p', is', of') = other .spent-below below in
+        is ∙ ap Report.Spent (spent-unique of of') ∙ sym is'))
+        (λ (enough, (d, is, of)). (let (d', is', of') = other .else-done enough in
+        is ∙ ap Report.Done (done-unique of of') ∙ sym is'))
+        (law-cases one)

@@ -2,24 +2,31 @@
 --     not-later-antisym            two corners of which neither is later are one
 --     not-later-on-side            on one side the numbers decide
 --     leads-map                    only which gaps it leads among matters, not how that is said
+--     leads-unique                 only one leads
 --     OnSide, by-side              a corner of a side, whose number has a property; a corner is of A or of B
---     worse-first, worse-second    the worse of two is the first if the second's gap is not greater, and else the second
---     leads-worse                  the worse of what leads among some and of what leads among later ones leads among all of these
+--     worse-first, worse-second    the worse of two is the first if the second's gap is not greater, and else the
+--                                  second
+--     leads-worse                  the worse of what leads among some and of what leads among later ones leads
+--                                  among all of these
 --     leads-of                     the preferred one among some corners of a side leads among their gaps
---     leads-both                   the worse of what leads among some of A and of what leads among some of B leads among both
+--     leads-both                   the worse of what leads among some of A and of what leads among some of B leads
+--                                  among both
 use Prim.Native.Nat.{ℕ, _<_, _≤_}
-use mathlib.Core.Path.{_≡_, refl, ap, _∙_}
+use mathlib.Core.Path.{_≡_, refl, sym, ap, _∙_}
 use mathlib.Core.Logic.{_↔_, _⊎_, inl, inr, ⊎-elim}
 use mathlib.Core.Bool.{Bool, true, false, cond}
 use native.Mathlib.Nat.{le-antisymm}
 use lib.ListN.{length}
 use Rattle.integers.specs.Fraction.{isLess, NotGreater}
-use Rattle.integers.proofs.FractionOrder.{notGreater-trans, isLess-true, isLess-false, less-isLess, notGreater-isLess, less-notGreater}
+use Rattle.integers.proofs.FractionOrder.{notGreater-trans, isLess-true, isLess-false, less-isLess}
+use Rattle.integers.proofs.FractionOrder.{notGreater-isLess, less-notGreater}
 use Rattle.hausdorff.specs.declared.CornerGap.{CornerGap}
 use Rattle.outline.specs.declared.Side.{Side}
 use Rattle.outline.specs.declared.Side.the-variants.{A, B}
-use Rattle.hausdorff.specs.Pair.{Pair, Polygons}
-use Rattle.hausdorff.specs.CornerGap.{cornerGap, worse}
+use Rattle.hausdorff.specs.Pair.{Pair}
+use Rattle.hausdorff.specs.code.Pair.{Polygons}
+use Rattle.hausdorff.specs.code.CornerGap.{cornerGap}
+use Rattle.hausdorff.specs.CornerGap.{worse}
 use Rattle.hausdorff.specs.Answer.{IsGap, NotLater, Leads}
 use Rattle.hausdorff.proofs.Preference.{PreferredOf}
 use Rattle.hausdorff.proofs.GapLaws.{gap-iff, gap-is, gap-lower}
@@ -44,6 +51,7 @@ leads-map {w = w} same leads = record {
   first-of-equals = λ z gap u. leads .first-of-equals z gap (same z .1 u);
 }
 
+-- a corner of a side, whose number has a property
 abbrev pub OnSide : Side → (ℕ → Type 0) → CornerGap → Type 0
 OnSide s Q w = (w .side ≡ s) × Q (w .corner)
 
@@ -61,6 +69,15 @@ pub worse-second : (w z : CornerGap) → ¬ NotGreater (z .gap) (w .gap) → wor
 worse-second w z less = ap (λ (t : Bool). cond t z w) (less-isLess (w .gap) (z .gap) less)
 
 module _ (pair : Pair) (polygons : Polygons pair) where
+  -- neither of two is greater, so neither is later
+  pub leads-unique : {T : CornerGap → Type 0} (w z : CornerGap) → Leads pair T w → Leads pair T z → w ≡ z
+  leads-unique w z p q =
+      gap-iff pair polygons w .0 (p .is-gap) .1
+      ∙ not-later-antisym pair (w .side) (z .side) (w .corner) (z .corner)
+      (p .first-of-equals z (q .is-gap) (q .among) (q .greatest w (p .is-gap) (p .among)))
+      (q .first-of-equals w (p .is-gap) (p .among) (p .greatest z (q .is-gap) (q .among)))
+      ∙ sym (gap-iff pair polygons z .0 (q .is-gap) .1)
+
   -- of equals the first comes before all later ones
   pub leads-worse : {T U : CornerGap → Type 0} (w z : CornerGap) → Leads pair T w → Leads pair U z
       → ((x : CornerGap) → U x → NotLater (w .side) (w .corner) (x .side) (x .corner))

@@ -1,4 +1,4 @@
--- The law of demand 3, in the order of the argument; what the call that compares gives, and the sizes of its numbers.
+-- The law of rule 6.4, in the order of the argument; what the call that compares gives, and the sizes of its numbers.
 pub mod GoesRound
 pub mod Cyclic
 pub mod OrderLaws
@@ -17,6 +17,7 @@ pub mod WorstLaws
 pub mod OverallWorst
 pub mod SideWorst
 pub mod AnswerLaws
+pub mod HausdorffLaws
 pub mod Law
 pub mod CallLaws
 pub mod Fitting

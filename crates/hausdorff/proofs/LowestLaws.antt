@@ -4,7 +4,8 @@ use Prim.Native.Nat.{ℕ, _<_}
 use mathlib.Core.Path.{_≡_, refl, sym, _∙_}
 use mathlib.Core.Logic.{_⊎_, inl, inr, _↔_, _≢_}
 use mathlib.Core.Bool.{false}
-use mathlib.Core.List.{List, [], _∷_, List·Memᴰ, List·Memᴰ·head, List·Memᴰ·not-nil, List·Memᴰ·cases-cons, Pairwise, rel-of-pairwise-cons}
+use mathlib.Core.List.{List, [], _∷_, List·Memᴰ, List·Memᴰ·head, List·Memᴰ·not-nil, List·Memᴰ·cases-cons, Pairwise}
+use mathlib.Core.List.{rel-of-pairwise-cons}
 use native.Mathlib.Omega.{arith}
 use lib.IntN.{pos}
 use lib.ListN.{length}
@@ -16,19 +17,21 @@ use Rattle.plane.specs.declared.Corner.{Corner}
 use Rattle.plane.specs.declared.Vector.{Vector}
 use Rattle.plane.specs.Vector.{_⇀_, cross, side, coordinates}
 use Rattle.plane.proofs.Algebra.{O, vec, crossE, _⇀E_, sideE, components, cross-back}
-use Rattle.outline.specs.Convex.{Polygon}
+use Rattle.outline.specs.code.Polygon.{Polygon}
 use Rattle.outline.specs.Corners.{next, previous, edge}
 use Rattle.outline.proofs.CornersLaws.{next-below, next-other, previous-below, next-previous}
 use Rattle.nearest.proofs.Support.{not-right, turns-on}
 use Rattle.outline.specs.declared.Side.{Side}
-use Rattle.hausdorff.specs.Pair.{Pair, Polygons}
-use Rattle.lists.specs.Lists.{headOr}
-use Rattle.hausdorff.specs.AngularOrder.{angularOrder, own}
-use Rattle.hausdorff.specs.Sweep.{begin}
-use Rattle.hausdorff.specs.Lowest.{LowestLeftmost}
+use Rattle.hausdorff.specs.Pair.{Pair}
+use Rattle.hausdorff.specs.code.Pair.{Polygons}
+use Rattle.lists.specs.code.Lists.{headOr}
+use Rattle.hausdorff.specs.AngularOrder.{angularOrder}
+use Rattle.hausdorff.specs.code.Own.{own}
+use Rattle.hausdorff.specs.Support.{passAll, supportAfter}
+use Rattle.hausdorff.specs.code.Lowest.{LowestLeftmost}
 use Rattle.plane.proofs.Halves.{Half, half, first-up}
 use Rattle.plane.proofs.DirectionLaws.{Before, across}
-use Rattle.hausdorff.proofs.OrderLaws.{polygons-go-round, own-members, own-rising}
+use Rattle.hausdorff.proofs.OrderLaws.{first-own, polygons-go-round, own-members, own-rising}
 
 -- a turn left to a direction that comes before leads from the second half to the first: e falls and f does not
 falls : (e f : Vector) → pos 0 <ℤ cross e f → Before f e → (e .y <ℤ pos 0) × (pos 0 ≤ℤ f .y)
@@ -46,7 +49,8 @@ falls e f turn before =
         prove (components (e ∷ f ∷ [])) (O ≺ crossE e' f' ∷ O ≼ f' .y ∷ e' .y ≗ O ∷ e' .x ≼ O ∷ []) (e' .y ≺ O)
         (hyp 1 ⊞ hyp 2 ⊠ hyp 4 ⊞ eqn 3 (⊝ f' .x)) tt turn up level left
 
--- an edge falls from p to c and the next, from c to r, does not: a point right of neither is above c, or level with it and not left of it
+-- an edge falls from p to c and the next, from c to r, does not: a point right of neither is above c, or level with
+-- it and not left of it
 lowest-between : (p c r v : Corner) → pos 0 <ℤ cross (p ⇀ c) (c ⇀ r) → (p ⇀ c) .y <ℤ pos 0 → pos 0 ≤ℤ (c ⇀ r) .y
     → pos 0 ≤ℤ side p c v → pos 0 ≤ℤ side c r v → (c .y <ℤ v .y) ⊎ ((c .y ≡ v .y) × (c .x ≤ℤ v .x))
 unfolding cross _⇀_
@@ -92,8 +96,8 @@ head-first n R (z ∷ l) some members rising = (
 )
 
 -- the first edge comes before the one that ends where it starts
-pub begins-lowest : (pair : Pair) → Polygons pair → (s : Side) → LowestLeftmost (pair s) (begin pair .support s)
-unfolding begin
+pub begins-lowest : (pair : Pair) → Polygons pair → (s : Side) → LowestLeftmost (pair s) (supportAfter pair 0 s)
+unfolding passAll
 begins-lowest pair polygons s =
     let n = length (pair s) in
     let three = polygons s .at-least in
@@ -102,4 +106,4 @@ begins-lowest pair polygons s =
     let known = previous-below n _ below in
     let into = next-previous n _ below in
     let before = first w known (λ e. next-other n w (omega arith) (into ∙ sym e)) in
-    rw into at (first-lowest (polygons s) w known (rw into (rw into at before)))
+    rw (first-own (angularOrder pair) s) (rw into at (first-lowest (polygons s) w known (rw into (rw into at before))))

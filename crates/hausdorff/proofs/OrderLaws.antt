@@ -1,11 +1,14 @@
--- The angular order is a sorted arrangement of exactly all edges, and in it each outline's own edges go round the outline.
+-- The angular order is a sorted arrangement of exactly all edges, and in it each outline's own edges go round the
+-- outline.
 --     Rounds, polygons-go-round    both outlines' directions go round once; those of polygons do
 --     order-arranges, order-members, order-length    it is an arrangement of all edges of both outlines
+--     order-distinct       no edge stands twice
 --     order-sorted         none is to come before an earlier one
 --     order-not-falling    so directions do not fall
 --     order-ties           and no edge of B stands before one of A that has its direction
 --     own-iff              a side's own edges in a list are those of the list that are of that side
 --     own-append           those in a joined list are those in its parts
+--     first-own            the start of its first edge in a list is the first of them
 --     own-members          a side's own edges in the order are all its edges
 --     own-rising           their directions rise
 --     own-cyclic           each is followed by the one that starts where it ends, and the last by the first
@@ -15,21 +18,27 @@ use native.Mathlib.Omega.{arith}
 use mathlib.Core.Path.{_≡_, refl, sym, _∙_}
 use mathlib.Core.Logic.{_↔_, Iff·rfl, Iff·trans, _≢_, _⊎_, inl, inr, ⊎-elim, ∥∥₁-elim}
 use mathlib.Core.HLevel.{⊥-prop, ¬-prop}
-use mathlib.Core.Bool.{Bool, true, false, Bool-set, true≢false, false≢true}
-use mathlib.Core.List.{List, [], _∷_, _++_, List·Memᴰ, List·Memᴰ·head, List·Memᴰ·tail, List·Memᴰ·cases-cons, List·Memᴰ·not-nil}
+use mathlib.Core.Bool.{Bool, true, false, cond, _&&_, Bool-set, true≢false, false≢true}
+use mathlib.Core.List.{List, [], _∷_, _++_, List·Memᴰ, List·Memᴰ·head, List·Memᴰ·tail, List·Memᴰ·cases-cons}
+use mathlib.Core.List.{List·Memᴰ·not-nil}
 use mathlib.Core.List.{List·Memᴰ·eq-of-singleton, List·Memᴰ·append-cases, Memᴰ·append-left, Memᴰ·append-right}
 use mathlib.Core.List.{List·Permᴰ, Permᴰ·symm, Perm·nodup, List·Nodup, nodup-append}
-use mathlib.Core.List.{Pairwise, Pairwise·nil, Pairwise·imp, Pairwise·and, Pairwise·of-cons, rel-of-pairwise-cons, pairwise-singleton}
+use mathlib.Core.List.{Pairwise, Pairwise·nil, Pairwise·imp, Pairwise·and, Pairwise·of-cons, rel-of-pairwise-cons}
+use mathlib.Core.List.{pairwise-singleton}
 use lib.ListN.{length, length-append}
 use Rattle.integers.proofs.Reflect.{test-and, test-or, test-false}
 use Rattle.plane.specs.Direction.{sameDirection}
 use Rattle.outline.specs.Corners.{edge}
 use Rattle.outline.specs.declared.Side.{Side}
 use Rattle.outline.specs.declared.Side.the-variants.{A, B}
-use Rattle.hausdorff.specs.Pair.{Pair, Polygons, sameSide, stepCount}
-use Rattle.hausdorff.specs.AngularOrder.{PairEdge, direction, isAThenB, precedes, edgesBelow, allEdges, angularOrder}
-use Rattle.lists.specs.Lists.{headOr}
-use Rattle.hausdorff.specs.AngularOrder.{consIf, own}
+use Rattle.hausdorff.specs.Pair.{Pair, sameSide, stepCount}
+use Rattle.hausdorff.specs.code.Pair.{Polygons}
+use Rattle.hausdorff.specs.AngularOrder.{PairEdge, direction, precedes, edgesBelow, allEdges, angularOrder}
+use Rattle.lists.specs.Fold.{fold}
+use Rattle.lists.specs.code.Lists.{headOr}
+use Rattle.lists.proofs.FoldLaws.{joined-member}
+use Rattle.hausdorff.specs.Support.{firstStart}
+use Rattle.hausdorff.specs.code.Own.{consIf, own}
 use Rattle.plane.proofs.Halves.{NonZero}
 use Rattle.plane.proofs.DirectionLaws.{Before, before-asym, before-trans, before-split, same-iff, Along}
 use Rattle.hausdorff.proofs.GoesRound.{GoesRound, polygon-goes-round}
@@ -37,6 +46,7 @@ use Rattle.lists.proofs.SortLaws.{related-cons, related-map, arranged-member, a
 use Rattle.lists.proofs.SortLaws.{sort-arranges, Sorted, sort-sorted}
 use Rattle.hausdorff.proofs.Cyclic.{Rising, Cyclic, rising-cyclic}
 
+-- both outlines' directions go round once
 abbrev pub Rounds : Pair → Type 0
 Rounds pair = (s : Side) → GoesRound (length (pair s)) (edge (pair s))
 
@@ -49,19 +59,14 @@ A-not-B same = let z : _≡_ {A = ℕ} 0 1 = cc in omega arith
 
 -- The edges of a side below n are those of that side with a number below n.
 below-members : (s : Side) (n : ℕ) (e : PairEdge) → List·Memᴰ e (edgesBelow s n) ↔ ((e .side ≡ s) × (e .number < n))
-unfolding edgesBelow
-below-members s zero e = (λ there. absurd (List·Memᴰ·not-nil there), λ (same, below). absurd (omega arith))
-below-members s (suc n) e = (
-  λ there. ⊎-elim (λ before. let (same, below) = below-members s n e .0 before in (same, omega arith))
-      (λ here. let equal = List·Memᴰ·eq-of-singleton here in rw equal (refl, omega arith))
-      (List·Memᴰ·append-cases (edgesBelow s n) there),
-  λ (same, below). ⊎-elim (λ last. Memᴰ·append-right (edgesBelow s n) (List·Memᴰ·head (rw (← same, ← last))))
-      (λ lower. Memᴰ·append-left _ (below-members s n e .1 (same, lower))) (eq-or-lt-of-le (le-of-suc-le-suc below)),
+below-members s n e = Iff·trans (joined-member _ n e) (
+  λ (i, below, here). (let equal = List·Memᴰ·eq-of-singleton here in rw equal (refl, below)),
+  λ (same, below). (e .number, below, List·Memᴰ·head (rw (← same))),
 )
 
 -- There are n of them.
 below-length : (s : Side) (n : ℕ) → length (edgesBelow s n) ≡ n
-unfolding edgesBelow
+unfolding fold
 below-length s zero = refl
 below-length s (suc n) = simp length-append (omega (arith, below-length s n))
 
@@ -76,23 +81,23 @@ joined-distinct ds es first second apart = nodup-append .1 (
 
 -- Each stands there once.
 below-distinct : (s : Side) (n : ℕ) → List·Nodup (edgesBelow s n)
-unfolding edgesBelow
+unfolding fold
 below-distinct s zero = Pairwise·nil
 below-distinct s (suc n) = joined-distinct (edgesBelow s n) _ (below-distinct s n) (pairwise-singleton _ _)
     (λ e here last. omega (arith, rw (List·Memᴰ·eq-of-singleton last) at (below-members s n e .0 here .1)))
 
 -- An edge stays among a side's own where it is of that side.
-own-first : (s t : Side) (i : ℕ) (js : List ℕ)
+consIf-side : (s t : Side) (i : ℕ) (js : List ℕ)
     → ((s ≡ t) × (consIf (sameSide s t) i js ≡ i ∷ js)) ⊎ ((s ≢ t) × (consIf (sameSide s t) i js ≡ js))
-own-first A A i js = inl (refl, refl)
-own-first A B i js = inr (A-not-B, refl)
-own-first B A i js = inr (λ e. A-not-B (sym e), refl)
-own-first B B i js = inl (refl, refl)
+consIf-side A A i js = inl (refl, refl)
+consIf-side A B i js = inr (A-not-B, refl)
+consIf-side B A i js = inr (λ e. A-not-B (sym e), refl)
+consIf-side B B i js = inl (refl, refl)
 
 pub own-iff : (s : Side) (i : ℕ) (es : List PairEdge) → List·Memᴰ i (own s es) ↔ List·Memᴰ (record { side = s; number = i }) es
 unfolding own
 own-iff s i [] = (λ there. absurd (List·Memᴰ·not-nil there), λ there. absurd (List·Memᴰ·not-nil there))
-own-iff s i (e ∷ es) = elim (own-first s (e .side) (e .number) (own s es)) [
+own-iff s i (e ∷ es) = elim (consIf-side s (e .side) (e .number) (own s es)) [
   | inl (same, stays) ↦ rw stays (
     λ there. ⊎-elim (λ (equal : i ≡ e .number). List·Memᴰ·head (rw (same, equal))) (λ later. List·Memᴰ·tail (own-iff s i es .0 later))
         (List·Memᴰ·cases-cons there),
@@ -105,22 +110,22 @@ own-iff s i (e ∷ es) = elim (own-first s (e .side) (e .number) (own s es)) [
 ]
 
 -- An edge put before a joined list is put before its first part.
-own-first-append : (t : Bool) (i : ℕ) (js ks : List ℕ) → consIf t i (js ++ ks) ≡ consIf t i js ++ ks
-own-first-append true i js ks = refl
-own-first-append false i js ks = refl
+consIf-append : (t : Bool) (i : ℕ) (js ks : List ℕ) → consIf t i (js ++ ks) ≡ consIf t i js ++ ks
+consIf-append true i js ks = refl
+consIf-append false i js ks = refl
 
 pub own-append : (s : Side) (front rest : List PairEdge) → own s (front ++ rest) ≡ own s front ++ own s rest
 unfolding own
 own-append s [] rest = refl
 own-append s (e ∷ front) rest =
-    rw (own-append s front rest) (own-first-append (sameSide s (e .side)) (e .number) (own s front) (own s rest))
+    rw (own-append s front rest) (consIf-append (sameSide s (e .side)) (e .number) (own s front) (own s rest))
 
 -- What relates the edges of a list in pairs relates a side's own.
 own-related : {R : PairEdge → PairEdge → Type 0} → ((e f : PairEdge) → IsProp (R e f)) → (s : Side) (es : List PairEdge) → Pairwise R es
     → Pairwise (λ i j. R (record { side = s; number = i }) (record { side = s; number = j })) (own s es)
 unfolding own
 own-related one-way s [] related = Pairwise·nil
-own-related one-way s (e ∷ es) related = elim (own-first s (e .side) (e .number) (own s es)) [
+own-related one-way s (e ∷ es) related = elim (consIf-side s (e .side) (e .number) (own s es)) [
   | inl (same, stays) ↦ rw stays (related-cons (λ i j. one-way _ _) (λ j there.
       let equal : e ≡ record { side = s; number = e .number } = rw same in
       rw equal at (rel-of-pairwise-cons related ∣ own-iff s j es .0 there ∣₁)) (own-related one-way s es (Pairwise·of-cons related)))
@@ -149,7 +154,7 @@ module _ (pair : Pair) where
   order-members e = Iff·trans (arranged-member order-arranges, arranged-member (Permᴰ·symm order-arranges)) (all-members e)
 
   -- No edge stands twice.
-  order-distinct : List·Nodup (angularOrder pair)
+  pub order-distinct : List·Nodup (angularOrder pair)
   order-distinct = Perm·nodup ∣ Permᴰ·symm order-arranges ∣₁
       (joined-distinct (edgesBelow A (length (pair A))) (edgesBelow B (length (pair B))) (below-distinct A _) (below-distinct B _)
       (λ e in-a in-b. A-not-B (sym (below-members A _ e .0 in-a .0) ∙ below-members B _ e .0 in-b .0)))
@@ -159,6 +164,21 @@ module _ (pair : Pair) where
 
   pub own-members : (s : Side) (i : ℕ) → List·Memᴰ i (own s (angularOrder pair)) ↔ (i < length (pair s))
   own-members s i = Iff·trans (own-iff s i (angularOrder pair)) (order-members (record { side = s; number = i }))
+
+-- The start of a side's own first edge is the first of its own.
+pub first-own : (es : List PairEdge) (s : Side) → firstStart es s ≡ headOr 0 (own s es)
+unfolding firstStart own
+first-own [] s = refl
+first-own (e ∷ es) s = go (sameSide s (e .side)) (first-own es s)
+  where
+    go : (t : Bool) → firstStart es s ≡ headOr 0 (own s es)
+        → cond t (e .number) (firstStart es s) ≡ headOr 0 (consIf t (e .number) (own s es))
+    go true rest = refl
+    go false rest = rest
+
+-- the first is A and the second B
+abbrev isAThenB : Side → Side → Bool
+isAThenB s t = sameSide s A && sameSide t B
 
 -- The test holds of A and B alone, in this order.
 A-then-B : (s t : Side) → isAThenB s t ≡ true → (s ≡ A) × (t ≡ B)

@@ -1,6 +1,7 @@
 -- Which of two corners of a side is the worse, and which of some corners of a side is the worst.
 --     Preferred          its gap is greater, or equal and its shown number not higher
---     PreferredOf        w is the true gap of a corner of the side that has a property, and preferred over all that have it
+--     PreferredOf        w is the true gap of a corner of the side that has a property, and preferred over all that
+--                        have it
 --     preferred-refl     a corner is preferred over itself
 --     taken-preferred    what `takesPlace` takes is preferred over what it leaves
 --     side-trans         preference is transitive on the corners of a side
@@ -18,9 +19,10 @@ use Rattle.integers.proofs.FractionOrder.{notGreater-refl, notGreater-trans, is
 use Rattle.integers.proofs.Greatest.{Greatest, greatest}
 use Rattle.hausdorff.specs.declared.CornerGap.{CornerGap}
 use Rattle.outline.specs.declared.Side.{Side}
-use Rattle.hausdorff.specs.Pair.{Pair, Polygons}
-use Rattle.hausdorff.specs.CornerGap.{cornerGap}
-use Rattle.hausdorff.specs.Worst.{shownNumber, takesPlace}
+use Rattle.hausdorff.specs.Pair.{Pair}
+use Rattle.hausdorff.specs.code.Pair.{Polygons}
+use Rattle.hausdorff.specs.code.CornerGap.{cornerGap}
+use Rattle.hausdorff.specs.code.Worst.{shownNumber, takesPlace}
 use Rattle.hausdorff.proofs.GapLaws.{gap-positive}
 
 pub record Preferred (shown : ℕ → ℕ) (w z : CornerGap) : Type 0 where

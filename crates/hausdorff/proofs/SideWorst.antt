@@ -1,5 +1,6 @@
 -- Each side's own worst corner is counted.
---     SideWorst        none if every corner of the side is within, else the preferred corner of the side, which is outside
+--     SideWorst        none if every corner of the side is within, else the preferred corner of the side, which is
+--                      outside
 --     side-worst       that is what the sweep finds
 --     side-directed    its gap is the squared distance from that side's piece to the other
 --     corner-reaches   Lemma 2 of report 83-442, for every position: a corner reaches that distance
@@ -12,16 +13,17 @@ use Rattle.integers.proofs.Greatest.{Greatest}
 use Rattle.plane.specs.Point.{whole}
 use Rattle.outline.specs.Corners.{corner}
 use Rattle.nearest.specs.Piece.{InPiece, Outside, isOutside}
-use Rattle.nearest.specs.Local.{feature}
+use Rattle.nearest.specs.code.Local.{feature}
 use Rattle.nearest.proofs.PieceLaws.{outside-test, inside-test}
 use Rattle.outline.specs.declared.Side.{Side}
 use Rattle.hausdorff.specs.declared.CornerGap.{CornerGap}
 use Rattle.hausdorff.specs.declared.WorstSoFar.{WorstSoFar}
 use Rattle.hausdorff.specs.declared.WorstSoFar.the-variants.{None, Worst}
-use Rattle.hausdorff.specs.Pair.{Pair, other, stepCount, Polygons}
-use Rattle.hausdorff.specs.CornerGap.{cornerGap}
-use Rattle.hausdorff.specs.Worst.{shownNumber}
-use Rattle.hausdorff.specs.Sweep.{after}
+use Rattle.hausdorff.specs.Pair.{Pair, other, stepCount}
+use Rattle.hausdorff.specs.code.Pair.{Polygons}
+use Rattle.hausdorff.specs.code.CornerGap.{cornerGap}
+use Rattle.hausdorff.specs.code.Worst.{shownNumber}
+use Rattle.hausdorff.specs.code.Sweep.{worstAfter}
 use Rattle.hausdorff.specs.Hausdorff.{Directed}
 use Rattle.hausdorff.proofs.OrderLaws.{polygons-go-round}
 use Rattle.hausdorff.proofs.SweepLaws.{meets-corner}
@@ -39,22 +41,25 @@ SideWorst pair s (Worst w) =
 module _ (pair : Pair) (polygons : Polygons pair) (s : Side) where
   -- a corner with the greatest gap of its side, if it is outside, is extreme, so it is met in the sweep and counts
   greatest-counted : (i : ℕ) → i < length (pair s) → Outside (pair (other s)) (whole (corner (pair s) i))
-      → ((j : ℕ) → j < length (pair s) → NotGreater (cornerGap pair s j .gap) (cornerGap pair s i .gap)) → Counted pair s (stepCount pair) i
+      → ((j : ℕ) → j < length (pair s) → NotGreater (cornerGap pair s j .gap) (cornerGap pair s i .gap))
+      → Counted pair (stepCount pair) s i
   greatest-counted i below outside greatest =
       let extremes = greatest-extreme pair polygons s i below outside greatest in
       met-counted pair polygons s i (meets-corner pair (polygons-go-round polygons) (outward pair polygons s i)
       (extremes .nonzero) s i (feature (pair (other s)) (corner (pair s) i)) (extremes .corner-extreme) (extremes .feature-extreme))
 
-  -- the preferred corner of the side is outside, so what is stored is preferred over it and over all; or it is within, and so are all
-  pub side-worst : SideWorst pair s (after pair (stepCount pair) .worst s)
+  -- the preferred corner of the side is outside, so what is stored is preferred over it and over all; or it is
+  -- within, and so are all
+  pub side-worst : SideWorst pair s (worstAfter pair (stepCount pair) s)
   side-worst =
-      go (isOutside (pair (other s)) (corner (pair s) (best .place))) refl (after pair (stepCount pair) .worst s)
+      go (isOutside (pair (other s)) (corner (pair s) (best .place))) refl (worstAfter pair (stepCount pair) s)
       (worst-after pair polygons s (stepCount pair))
     where
       best : Greatest (λ i j. Preferred (shownNumber pair s) (cornerGap pair s i) (cornerGap pair s j)) (length (pair s))
       best = foremost pair polygons s
 
-      best-counted : isOutside (pair (other s)) (corner (pair s) (best .place)) ≡ true → Counted pair s (stepCount pair) (best .place)
+      best-counted : isOutside (pair (other s)) (corner (pair s) (best .place)) ≡ true
+          → Counted pair (stepCount pair) s (best .place)
       best-counted holds = greatest-counted (best .place) (best .below)
           (outside-test (pair (other s)) (corner (pair s) (best .place)) .0 holds) (λ j below. best .over j below .not-less)
 
@@ -63,7 +68,7 @@ module _ (pair : Pair) (polygons : Polygons pair) (s : Side) where
           (inside-test (pair (other s)) (corner (pair s) (best .place)) .0 fails) .0 (best .over i below .not-less)
 
       go : (t : Bool) → isOutside (pair (other s)) (corner (pair s) (best .place)) ≡ t
-          → (x : WorstSoFar) → WorstOf pair s (Counted pair s (stepCount pair)) x → SideWorst pair s x
+          → (x : WorstSoFar) → WorstOf pair s (Counted pair (stepCount pair) s) x → SideWorst pair s x
       go true holds None none = absurd (none (best .place) (best-counted holds))
       go true holds (Worst w) most =
           let is-outside = counted-outside pair polygons s (w .corner) (stepCount pair) (most .holds) in (
@@ -81,7 +86,8 @@ module _ (pair : Pair) (polygons : Polygons pair) (s : Side) where
           absurd (is-outside .outside (all-within fails (w .corner) (is-outside .known)))
 
   -- for its gap is the greatest of the side
-  pub side-directed : (w : CornerGap) → after pair (stepCount pair) .worst s ≡ Worst w → Directed (pair s) (pair (other s)) (w .gap)
+  pub side-directed : (w : CornerGap) → worstAfter pair (stepCount pair) s ≡ Worst w
+      → Directed (pair s) (pair (other s)) (w .gap)
   side-directed w equal =
       let (best, outside) : SideWorst pair s (Worst w) = subst (SideWorst pair s) equal side-worst in
       rw (best .equal) (greatest-directed pair polygons s (w .corner) (best .holds)

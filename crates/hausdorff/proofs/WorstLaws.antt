@@ -1,47 +1,57 @@
 -- The worst so far of each side is the greatest gap that has been counted, under the rule for equals, or none.
---     WorstOf            a side's worst is the preferred one of the corners that have a property, or none where none has it
---     worst-after        a side's worst so far after k steps is that of the corners that count in the steps up to k, and a true gap
---     support-known      a support corner after k steps is a corner of its outline
+--     WorstOf            a side's worst is the preferred one of the corners that have a property, or none where
+--                        none has it
 --     IsOutsideCorner    a corner of the side that is not within the other piece
---     counted-outside    what counts is one
---     AtNearest          a corner is the support corner where its nearest feature is at the other support corner
---     met-counted        then it counts
-use Prim.Native.Nat.{ℕ, _<_}
-use mathlib.Core.Path.{_≡_, refl}
-use mathlib.Core.Logic.{_↔_, _⊎_, inl, inr, ⊎-elim, Iff·rfl}
-use mathlib.Core.Bool.{Bool, true, false, cond, true≢false}
+--     support-known      a support corner after k steps is a corner of its outline
+--     worst-after        a side's worst so far after k steps is that of the corners that count in the steps up to
+--                        k, and a true gap
+--     counted-outside    what counts is an outside corner
+--     AtNearest          corner i is the support corner, and its nearest feature is at the other one
+--     met-counted        where that is met it counts
+use Prim.Native.Nat.{ℕ, zero, suc, _<_}
+use native.Mathlib.Nat.{eq-or-lt-of-le, le-of-suc-le-suc}
+use mathlib.Core.Path.{_≡_, refl, sym, subst}
+use mathlib.Core.Logic.{_↔_, _⊎_, inl, inr, ⊎-elim}
+use mathlib.Core.Bool.{Bool, true, false, cond}
 use mathlib.Core.List.{List, [], _∷_}
 use native.Mathlib.Omega.{arith}
 use lib.ListN.{length, take}
-use lib.Seq.{take-length}
-use Rattle.integers.proofs.Reflect.{test-and}
+use Rattle.integers.proofs.Reflect.{test-false}
+use Rattle.plane.specs.declared.Corner.{Corner}
 use Rattle.plane.specs.Point.{whole}
 use Rattle.outline.specs.Corners.{corner, next}
 use Rattle.outline.proofs.CornersLaws.{next-below}
 use Rattle.nearest.specs.Piece.{Outside}
-use Rattle.nearest.specs.Local.{feature}
-use Rattle.nearest.proofs.PieceLaws.{outside-test}
+use Rattle.nearest.specs.code.Local.{feature}
 use Rattle.outline.specs.declared.Side.{Side}
 use Rattle.hausdorff.specs.declared.WorstSoFar.{WorstSoFar}
 use Rattle.hausdorff.specs.declared.WorstSoFar.the-variants.{None, Worst}
-use Rattle.hausdorff.specs.Pair.{Pair, other, sameSide, stepCount, Polygons}
+use Rattle.hausdorff.specs.Pair.{Pair, other, sameSide, stepCount}
+use Rattle.hausdorff.specs.code.Pair.{Polygons}
 use Rattle.hausdorff.specs.AngularOrder.{PairEdge, angularOrder}
-use Rattle.hausdorff.specs.Counting.{isCounted}
-use Rattle.hausdorff.specs.CornerGap.{cornerGap}
-use Rattle.hausdorff.specs.Worst.{shownNumber, takesPlace, keep}
-use Rattle.hausdorff.specs.Counted.{Met, Counts, Counted}
-use Rattle.hausdorff.specs.Sweep.{Sweep, begin, measured, passedSupport, step, steps, after}
-use Rattle.hausdorff.proofs.OrderLaws.{order-length}
+use Rattle.hausdorff.specs.code.Counting.{isCounted}
+use Rattle.hausdorff.specs.code.CornerGap.{cornerGap}
+use Rattle.hausdorff.specs.code.Worst.{shownNumber, takesPlace, keep}
+use Rattle.hausdorff.specs.Counted.{Counts, CountsAfter, Counted}
+use Rattle.hausdorff.specs.Support.{firstStart, pass, passAll, supportAfter}
+use Rattle.hausdorff.specs.code.Sweep.{measured, worstAfter}
 use Rattle.hausdorff.proofs.Extreme.{AtSupport}
 use Rattle.hausdorff.proofs.LowestLaws.{begins-lowest}
-use Rattle.hausdorff.proofs.CountingLaws.{counted-iff}
+use Rattle.hausdorff.proofs.CountingLaws.{counted-iff, counts-iff}
+use Rattle.hausdorff.proofs.SweepLaws.{Met}
 use Rattle.hausdorff.proofs.Preference.{Preferred, preferred-refl, taken-preferred, side-trans, PreferredOf}
 
+-- a side's worst is the preferred one of the corners that have a property, or none where none has it
 abbrev pub WorstOf : Pair → Side → (ℕ → Type 0) → WorstSoFar → Type 0
 WorstOf pair s Q None = (i : ℕ) → ¬ Q i
 WorstOf pair s Q (Worst w) = PreferredOf pair s Q w
 
-module _ (pair : Pair) (polygons : Polygons pair) (s : Side) where
+-- a corner of the side that is not within the other piece
+pub record IsOutsideCorner (pair : Pair) (s : Side) (i : ℕ) : Type 0 where
+  pub known : i < length (pair s)
+  pub outside : Outside (pair (other s)) (whole (corner (pair s) i))
+
+module _ (pair : Pair) (s : Side) where
   -- only which corners it is the worst of matters, not how that is said
   worst-map : {Q R : ℕ → Type 0} → ((i : ℕ) → Q i ↔ R i) → (x : WorstSoFar) → WorstOf pair s Q x → WorstOf pair s R x
   worst-map same None none = λ i r. none i (same i .1 r)
@@ -51,11 +61,13 @@ module _ (pair : Pair) (polygons : Polygons pair) (s : Side) where
     preferred = λ j r. best .preferred j (same j .1 r);
   }
 
+module _ (pair : Pair) (polygons : Polygons pair) (s : Side) where
   -- what is kept of the worst of some corners and the worst of others is the worst of all of these
   keep-worst : (Q R : ℕ → Type 0) (old new : WorstSoFar) → WorstOf pair s Q old → WorstOf pair s R new
       → WorstOf pair s (λ i. Q i ⊎ R i) (keep (shownNumber pair s) old new)
-  keep-worst Q R None new none q = worst-map (λ i. (inr, ⊎-elim (λ h. absurd (none i h)) (λ h. h))) new q
-  keep-worst Q R (Worst old) None p none = worst-map (λ i. (inl, ⊎-elim (λ h. h) (λ h. absurd (none i h)))) (Worst old) p
+  keep-worst Q R None new none q = worst-map pair s (λ i. (inr, ⊎-elim (λ h. absurd (none i h)) (λ h. h))) new q
+  keep-worst Q R (Worst old) None p none =
+      worst-map pair s (λ i. (inl, ⊎-elim (λ h. h) (λ h. absurd (none i h)))) (Worst old) p
   keep-worst Q R (Worst old) (Worst new) p q =
       go (takesPlace (shownNumber pair s) new old) (taken-preferred (shownNumber pair s) new old)
     where
@@ -74,109 +86,88 @@ module _ (pair : Pair) (polygons : Polygons pair) (s : Side) where
             (p .preferred j) (λ h. side-trans pair polygons s old new j (p .equal) (q .equal) better (q .preferred j h));
       }
 
-  -- what is measured is the support corner, if it counts
-  measured-worst : (support : Side → ℕ) → WorstOf pair s (λ i. Counts pair s i support) (measured pair support s)
-  unfolding measured
-  measured-worst support = go (isCounted (pair (other s)) (support (other s)) (corner (pair s) (support s))) refl
-    where
-      go : (t : Bool) → isCounted (pair (other s)) (support (other s)) (corner (pair s) (support s)) ≡ t
-          → WorstOf pair s (λ i. Counts pair s i support) (cond t (Worst (cornerGap pair s (support s))) None)
-      go true counts = record {
-        equal = refl;
-        holds = (refl, counts);
-        preferred = λ j (here, _). rw (← here) (preferred-refl (shownNumber pair s) (cornerGap pair s (support s)));
-      }
-      go false not-counted = λ i (here, counts). true≢false cc
-
-  -- so after some steps the worst is that of the corners that it was of before and of those that count in one of these
-  steps-worst : (Q : ℕ → Type 0) (es : List PairEdge) (sweep : Sweep) → WorstOf pair s Q (sweep .worst s)
-      → WorstOf pair s (λ i. Q i ⊎ Met pair (Counts pair s i) es (sweep .support)) (steps pair es sweep .worst s)
-  unfolding steps step
-  steps-worst Q [] sweep p = worst-map (λ i. (inl, ⊎-elim (λ h. h) absurd)) (sweep .worst s) p
-  steps-worst Q (e ∷ es) sweep p =
-      worst-map (λ i. (
-        ⊎-elim (⊎-elim inl (λ h. inr (inl h))) (λ h. inr (inr h)),
-        ⊎-elim (λ h. inl (inl h)) (⊎-elim (λ h. inl (inr h)) inr),
-      ))
-      (steps pair (e ∷ es) sweep .worst s)
-      (steps-worst (λ i. Q i ⊎ Counts pair s i (sweep .support)) es (step pair e sweep)
-      (keep-worst Q (λ i. Counts pair s i (sweep .support)) (sweep .worst s) (measured pair (sweep .support) s) p
-      (measured-worst (sweep .support))))
-
-  -- before step 1 it is none
-  pub worst-after : (k : ℕ) → WorstOf pair s (Counted pair s k) (after pair k .worst s)
-  unfolding begin
-  worst-after k =
-      worst-map (λ i. (⊎-elim absurd (λ h. h), inr)) (after pair k .worst s)
-      (steps-worst (λ i. ⊥) (take k (angularOrder pair)) (begin pair) (λ i none. none))
-
-pub record IsOutsideCorner (pair : Pair) (s : Side) (i : ℕ) : Type 0 where
-  pub known : i < length (pair s)
-  pub outside : Outside (pair (other s)) (whole (corner (pair s) i))
-
 -- both support corners are corners of their outlines
 abbrev Supported : Pair → (Side → ℕ) → Type 0
 Supported pair support = (s : Side) → support s < length (pair s)
 
 module _ (pair : Pair) (polygons : Polygons pair) where
-  -- they are before step 1
-  begin-below : Supported pair (begin pair .support)
-  begin-below s = begins-lowest pair polygons s .known
-
-  -- and passing an edge leads to a corner of its outline
-  passedSupport-below : (support : Side → ℕ) → Supported pair support → (e : PairEdge)
-      → Supported pair (passedSupport pair e support)
-  passedSupport-below support known e s = go (sameSide s (e .side))
+  -- passing an edge leads to a corner of its outline
+  pass-below : (support : Side → ℕ) → Supported pair support → (e : PairEdge) → Supported pair (pass pair e support)
+  pass-below support known e s = go (sameSide s (e .side))
     where
       go : (t : Bool) → cond t (next (length (pair s)) (e .number)) (support s) < length (pair s)
       go true = next-below (length (pair s)) (e .number) (omega (arith, known s))
       go false = known s
 
-  -- so it is after any number of steps
-  steps-below : (es : List PairEdge) (sweep : Sweep) → Supported pair (sweep .support) → Supported pair (steps pair es sweep .support)
-  unfolding steps step
-  steps-below [] sweep known = known
-  steps-below (e ∷ es) sweep known = steps-below es (step pair e sweep) (passedSupport-below (sweep .support) known e)
+  passAll-below : (es : List PairEdge) (support : Side → ℕ)
+      → Supported pair support → Supported pair (passAll pair es support)
+  unfolding passAll
+  passAll-below [] support known = known
+  passAll-below (e ∷ es) support known = passAll-below es (pass pair e support) (pass-below support known e)
 
-  pub support-known : (k : ℕ) (s : Side) → after pair k .support s < length (pair s)
-  support-known k = steps-below (take k (angularOrder pair)) (begin pair) begin-below
+  -- and before step 1 they are the lowest
+  pub support-known : (k : ℕ) → Supported pair (supportAfter pair k)
+  unfolding passAll
+  support-known k = passAll-below (take k (angularOrder pair)) (firstStart (angularOrder pair))
+      (λ s. begins-lowest pair polygons s .known)
 
-  -- so they are wherever P is met
-  met-map : {P Q : (Side → ℕ) → Type 0} → ((support : Side → ℕ) → Supported pair support → P support → Q support)
-      → (es : List PairEdge) (support : Side → ℕ) → Supported pair support → Met pair P es support → Met pair Q es support
-  met-map f [] support known none = none
-  met-map f (e ∷ es) support known (inl here) = inl (f support known here)
-  met-map f (e ∷ es) support known (inr later) =
-      inr (met-map f es (passedSupport pair e support) (passedSupport-below support known e) later)
+  module _ (s : Side) where
+    -- what is measured is the support corner, if it counts
+    measured-worst : (j : ℕ) → WorstOf pair s (CountsAfter pair j s) (measured pair (supportAfter pair j) s)
+    unfolding measured
+    measured-worst j = go (isCounted (pair (other s)) b v) refl
+      where
+        b : ℕ
+        b = supportAfter pair j (other s)
 
-  -- what does not depend on the step holds if it is met
-  met-some : {T : Type 0} (es : List PairEdge) (support : Side → ℕ) → Met pair (λ t. T) es support → T
-  met-some [] support none = absurd none
-  met-some (e ∷ es) support (inl here) = here
-  met-some (e ∷ es) support (inr later) = met-some es (passedSupport pair e support) later
+        i : ℕ
+        i = supportAfter pair j s
 
-  module _ (s : Side) (i : ℕ) where
-    -- it is the first test of `isCounted`
-    counts-outside : (support : Side → ℕ) → Supported pair support → Counts pair s i support → IsOutsideCorner pair s i
-    unfolding isCounted
-    counts-outside support known (here, counts) = record {
-      known = rw here at (known s);
-      outside = test-and _ _ (outside-test (pair (other s)) (corner (pair s) i)) Iff·rfl .0 counts .0;
-    }
+        v : Corner
+        v = corner (pair s) i
 
-    pub counted-outside : (k : ℕ) → Counted pair s k i → IsOutsideCorner pair s i
-    counted-outside k counted = met-some (take k (angularOrder pair)) (begin pair .support)
-        (met-map counts-outside (take k (angularOrder pair)) (begin pair .support) begin-below counted)
+        means : (isCounted (pair (other s)) b v ≡ true) ↔ Counts (pair (other s)) b v
+        means = counts-iff (polygons (other s)) b (support-known j (other s)) v
 
-    abbrev pub AtNearest : (Side → ℕ) → Type 0
-    AtNearest support = (support s ≡ i)
-        × AtSupport (length (pair (other s))) (support (other s)) (feature (pair (other s)) (corner (pair s) i))
+        go : (t : Bool) → isCounted (pair (other s)) b v ≡ t
+            → WorstOf pair s (CountsAfter pair j s) (cond t (Worst (cornerGap pair s i)) None)
+        go true holds = record {
+          equal = refl;
+          holds = (refl, means .0 holds);
+          preferred = λ k (here, _). rw (← here) (preferred-refl (shownNumber pair s) (cornerGap pair s i));
+        }
+        go false fails = λ k (here, counts).
+            test-false _ means .0 fails
+            (subst (λ (x : ℕ). Counts (pair (other s)) b (corner (pair s) x)) (sym here) counts)
 
-    pub met-counted : Met pair AtNearest (angularOrder pair) (begin pair .support) → Counted pair s (stepCount pair) i
-    met-counted met =
-        rw (← order-length pair, take-length (angularOrder pair))
-        (met-map (λ support known (here, near). (
-          here,
-          counted-iff (polygons (other s)) (support (other s)) (known (other s)) (corner (pair s) i) .1 near,
+    -- before step 1 it is none, and each step adds what counts in it
+    pub worst-after : (k : ℕ) → WorstOf pair s (Counted pair k s) (worstAfter pair k s)
+    unfolding worstAfter
+    worst-after zero = λ i (j, below, _). absurd (omega arith)
+    worst-after (suc k) =
+        worst-map pair s (λ i. (
+          ⊎-elim (λ (j, below, counts). (j, omega arith, counts)) (λ counts. (k, omega arith, counts)),
+          λ (j, below, counts). ⊎-elim
+              (λ last. inr (subst (λ (x : ℕ). CountsAfter pair x s i) last counts)) (λ less. inl (j, less, counts))
+              (eq-or-lt-of-le (le-of-suc-le-suc below)),
         ))
-        (angularOrder pair) (begin pair .support) begin-below met)
+        (keep (shownNumber pair s) (worstAfter pair k s) (measured pair (supportAfter pair k) s))
+        (keep-worst pair polygons s (Counted pair k s) (CountsAfter pair k s) (worstAfter pair k s)
+        (measured pair (supportAfter pair k) s) (worst-after k) (measured-worst k))
+
+    module _ (i : ℕ) where
+      pub counted-outside : (k : ℕ) → Counted pair k s i → IsOutsideCorner pair s i
+      counted-outside k (j, below, (here, counts)) =
+          record { known = rw here at (support-known j s); outside = counts .outside }
+
+      -- corner i is the support corner, and its nearest feature is at the other one
+      abbrev pub AtNearest : (Side → ℕ) → Type 0
+      AtNearest support = (support s ≡ i)
+          × AtSupport (length (pair (other s))) (support (other s)) (feature (pair (other s)) (corner (pair s) i))
+
+      pub met-counted : Met pair AtNearest → Counted pair (stepCount pair) s i
+      met-counted met =
+          let j = met .steps in let (here, near) = met .holds in
+          let polygon = polygons (other s) in let b = supportAfter pair j (other s) in
+          let known = support-known j (other s) in let v = corner (pair s) i in
+          (j, met .below, (here, counts-iff polygon b known v .0 (counted-iff polygon b known v .1 near)))

@@ -1,10 +1,6 @@
--- Document 01, "Gap of one corner": the answer, from the nearest relation alone. It cites neither the steps nor the exhaustive search.
---     IsGap       a corner of one outline with its feature, gap and nearest point in the other
---     NotLater    A's corners come before B's, and then lower numbers
---     Leads       w is one of some gaps, the greatest of these, and the first of equals
---     IsAnswer    it leads among all
---     TrueFigure  the greatest gap over all corners of both
--- `proofs/AnswerLaws.antt` shows that there is one answer, and that it is A's corner 0, within, if every gap is zero.
+-- The answer, from the nearest relation alone. It cites neither the steps nor the exhaustive search.
+-- `proofs/AnswerLaws.antt` shows that there is one answer, and that it is A's corner 0, within, if every gap is
+-- zero (rule 4.3).
 use Prim.Native.Nat.{ℕ, _<_, _≤_}
 use mathlib.Core.Path.{_≡_}
 use lib.ListN.{length}
@@ -18,16 +14,19 @@ use Rattle.hausdorff.specs.declared.CornerGap.{CornerGap}
 use Rattle.hausdorff.specs.Pair.{Pair, other}
 use Rattle.hausdorff.specs.CornerGap.{nearestOf}
 
+-- rule 4.1: w is a corner of one outline with its feature, gap and nearest point in the other
 pub record IsGap (pair : Pair) (w : CornerGap) : Type 0 where
   pub known : w .corner < length (pair (w .side))
   pub answers : Answers (pair (other (w .side))) (corner (pair (w .side)) (w .corner)) (nearestOf w)
 
+-- A's corners come before B's, and then lower numbers
 abbrev pub NotLater : Side → ℕ → Side → ℕ → Type 0
 NotLater A i A j = i ≤ j
 NotLater A i B j = Unit {0}
 NotLater B i A j = ⊥
 NotLater B i B j = i ≤ j
 
+-- w is one of some gaps, the greatest of these as a value, and the first of equals
 pub record Leads (pair : Pair) (Among : CornerGap → Type 0) (w : CornerGap) : Type 0 where
   pub is-gap : IsGap pair w
   pub among : Among w
@@ -35,10 +34,11 @@ pub record Leads (pair : Pair) (Among : CornerGap → Type 0) (w : CornerGap) : 
   pub first-of-equals : (z : CornerGap) → IsGap pair z → Among z → NotGreater (w .gap) (z .gap)
       → NotLater (w .side) (w .corner) (z .side) (z .corner)
 
--- the greatest gap over all corners of both, A's corners before B's and then lower numbers where gaps are equal as values
+-- rule 4.2, the answer: it leads among all corners of both
 abbrev pub IsAnswer : Pair → CornerGap → Type 0
 IsAnswer pair w = Leads pair (λ z. Unit {0}) w
 
+-- rule 4.4: the greatest gap over all corners of both
 pub record TrueFigure (pair : Pair) (g : Fraction) : Type 0 where
   pub reached : (z : CornerGap) × IsGap pair z × (z .gap ≡ g)
   pub greatest : (z : CornerGap) → IsGap pair z → NotGreater (z .gap) g

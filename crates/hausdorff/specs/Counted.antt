@@ -1,26 +1,52 @@
--- Document 01: which corners have been counted.
---     Met        something holds of the support corners before some step, of those that pass the edges es
---     Counts     corner i of a side is its support corner, and counts
---     Counted    so it is in some step up to k
-use Prim.Native.Nat.{ℕ}
+-- Which corners the sweep counts, and the worst so far.
+use Prim.Native.Nat.{ℕ, _<_}
 use mathlib.Core.Path.{_≡_}
 use mathlib.Core.Logic.{_⊎_}
-use mathlib.Core.Bool.{true}
-use mathlib.Core.List.{List, [], _∷_}
-use lib.ListN.{take}
-use Rattle.outline.specs.Corners.{corner}
+use mathlib.Core.List.{List}
+use lib.IntN.{pos}
+use lib.ListN.{length}
+use lib.Signed.{_≤ℤ_}
+use Rattle.plane.specs.declared.Corner.{Corner}
+use Rattle.plane.specs.declared.Point.{Point}
+use Rattle.plane.specs.Point.{whole, _⇢_, Same}
+use Rattle.plane.specs.Vector.{dot}
+use Rattle.outline.specs.Corners.{corner, next, previous, edge}
 use Rattle.outline.specs.declared.Side.{Side}
+use Rattle.nearest.specs.Nearest.{Nearest}
+use Rattle.nearest.specs.Piece.{sideOf, Outside}
+use Rattle.hausdorff.specs.declared.WorstSoFar.{WorstSoFar}
+use Rattle.hausdorff.specs.declared.WorstSoFar.the-variants.{None, Worst}
 use Rattle.hausdorff.specs.Pair.{Pair, other}
-use Rattle.hausdorff.specs.AngularOrder.{PairEdge, angularOrder}
-use Rattle.hausdorff.specs.Counting.{isCounted}
-use Rattle.hausdorff.specs.Sweep.{begin, passedSupport}
+use Rattle.hausdorff.specs.Answer.{Leads}
+use Rattle.hausdorff.specs.Support.{supportAfter}
 
-abbrev pub Met : Pair → ((Side → ℕ) → Type 0) → List PairEdge → (Side → ℕ) → Type 0
-Met pair Holds [] support = ⊥
-Met pair Holds (e ∷ es) support = Holds support ⊎ Met pair Holds es (passedSupport pair e support)
+-- y lies on edge i, its ends included: on the edge's line, not before its start and not after its end
+pub record LiesOn (cs : List Corner) (i : ℕ) (y : Point) : Type 0 where
+  pub on-line : sideOf cs i y ≡ pos 0
+  pub from-start : pos 0 ≤ℤ dot (edge cs i) (whole (corner cs i) ⇢ y)
+  pub to-end : pos 0 ≤ℤ dot (edge cs i) (y ⇢ whole (corner cs (next (length cs) i)))
 
-abbrev pub Counts : Pair → Side → ℕ → (Side → ℕ) → Type 0
-Counts pair s i support = (support s ≡ i) × (isCounted (pair (other s)) (support (other s)) (corner (pair s) i) ≡ true)
+-- y is corner b or lies on one of the two edges that meet there, ends included
+abbrev pub LiesAt : List Corner → ℕ → Point → Type 0
+LiesAt cs b y = (Same y (whole (corner cs b)) ⊎ LiesOn cs (previous (length cs) b) y) ⊎ LiesOn cs b y
 
-abbrev pub Counted : Pair → Side → ℕ → ℕ → Type 0
-Counted pair s k i = Met pair (Counts pair s i) (take k (angularOrder pair)) (begin pair .support)
+-- rule 5.6: v counts, where b is the support corner of the other piece: it is not within that piece, and its
+-- nearest point there is corner b or lies on one of the two edges that meet there
+pub record Counts (cs : List Corner) (b : ℕ) (v : Corner) : Type 0 where
+  pub outside : Outside cs (whole v)
+  pub lies-at : (y : Point) × Nearest cs (whole v) y × LiesAt cs b y
+
+-- corner i of side s counts in the step after j steps, which measures at the support corners after these
+abbrev pub CountsAfter : Pair → ℕ → Side → ℕ → Type 0
+CountsAfter pair j s i =
+    (supportAfter pair j s ≡ i) × Counts (pair (other s)) (supportAfter pair j (other s)) (corner (pair s) i)
+
+-- it counts in one of the first k steps; k is at most N
+abbrev pub Counted : Pair → ℕ → Side → ℕ → Type 0
+Counted pair k s i = (j : ℕ) × (j < k) × CountsAfter pair j s i
+
+-- rule 5.7, the worst so far after k steps: the greatest gap that counts in them, of equals the first; or none, if
+-- none counts
+abbrev pub IsWorst : Pair → ℕ → WorstSoFar → Type 0
+IsWorst pair k None = (s : Side) (i : ℕ) → ¬ Counted pair k s i
+IsWorst pair k (Worst w) = Leads pair (λ z. Counted pair k (z .side) (z .corner)) w

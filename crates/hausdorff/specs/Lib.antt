@@ -1,16 +1,12 @@
--- Document 01, "Gap of one corner" and "The sweep", and what comparing two lists gives.
+-- Comparing two outlines: sections 4, 5 and 6 of docs/SPECIFICATION.md, and the call of rule 7.4.
 pub mod Pair
 pub mod CornerGap
 pub mod Answer
 pub mod Hausdorff
 pub mod Exhaustive
 pub mod AngularOrder
-pub mod Counting
-pub mod Worst
-pub mod Sweep
-pub mod Lowest
+pub mod Support
 pub mod Counted
-pub mod Report
 pub mod Law
 pub mod Call
-pub mod Sizes
+pub mod code

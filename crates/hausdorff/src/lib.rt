@@ -1,5 +1,5 @@
-// The Hausdorff distance of two outlines: what a comparison by steps reports. `specs/` defines the steps and the distance, and
-// `proofs/` shows that the steps find it (`proofs/Law.antt`).
+// The Hausdorff distance of two outlines: what a comparison by steps reports. `specs/` defines the steps and the
+// distance, and `proofs/` shows that the steps find it (`proofs/Law.antt`).
 use integers::fraction::Fraction;
 use nearest::Feature;
 use outline::Refusal;
@@ -15,26 +15,27 @@ pub struct CornerGap {
     pub point: Point,
 }
 
-// Document 01: the worst so far, or none.
+// The worst so far, or none.
 pub enum WorstSoFar {
     None,
     Worst(CornerGap),
 }
 
-// The support corners, one of each outline: document 01's corners in touch.
+// The support corners, one of each outline.
 pub struct SupportCorners {
     pub a: usize,
     pub b: usize,
 }
 
-// Document 01: the allowance was below the number of steps. The steps made, the support corners and the worst so far.
+// Rule 6.2: the allowance was below N, the number of edges of both. The steps made, the support corners and the worst
+// so far.
 pub struct Spent {
     pub steps: u32,
     pub support: SupportCorners,
     pub worst: WorstSoFar,
 }
 
-// Document 01: all steps were made. Their number, the answer and its clearance figure.
+// Rule 6.3: all steps were made. Their number, the answer and its clearance.
 pub struct Done {
     pub steps: u32,
     pub answer: CornerGap,

@@ -1,5 +1,5 @@
--- Orders that follow from orders, by a sign certificate: a sum of products of hypotheses, squares and numerals which is the
--- polynomial 0 although one summand is above 0, so that the hypotheses cannot hold together.
+-- Orders that follow from orders, by a sign certificate: a sum of products of hypotheses, squares and numerals
+-- which is the polynomial 0 although one summand is above 0, so that the hypotheses cannot hold together.
 --   Claim: _≺_ _≼_ _≗_   order or equation of two expressions; they bind tighter than ∷
 --   Cert: hyp i          right side less left side of hypothesis i
 --         tight i        the same less 1, of a strict hypothesis
@@ -8,9 +8,11 @@
 --         eqn i e        equation i, right side less left side, times any expression
 --         _⊠_ _⊞_        products and sums
 --   refute env hyps cert tt       ⊥, given a proof of each hypothesis; they count from 0
---   prove env hyps goal cert tt   the goal, given a proof of each hypothesis; hypothesis 0 is the goal's opposite, and yours
+-- prove env hyps goal cert tt   the goal, given a proof of each hypothesis; hypothesis 0 is the goal's opposite,
+-- and yours
 --                                 count from 1. For a goal l ≗ r from equations the certificate is that of l ≼ r
--- A proof of each hypothesis goes behind `tt` as one more argument, or stays an argument of the lemma that is proved so.
+-- A proof of each hypothesis goes behind `tt` as one more argument, or stays an argument of the lemma that is
+-- proved so.
 use mathlib.Core.Path.{_≡_, refl, sym, _∙_, ap, subst}
 use mathlib.Core.Bool.{Bool, true, false, _&&_, _||_}
 use mathlib.Core.List.{List, [], _∷_}
@@ -21,7 +23,8 @@ use mir.Facts.{and-yes}
 use lib.ListN.{getD}
 use lib.IntN.{ℤ, pos, _+ℤ_, _-ℤ_, _*ℤ_, +ℤ-invr, zero-*ℤ}
 use lib.Signed.{_≤ℤ_, _<ℤ_, ≤ℤ-refl, <ℤ-irrefl, ltZ-yes}
-use Rattle.integers.proofs.Order.{≰ℤ-<ℤ, ≮ℤ-≤ℤ, <ℤ-≤ℤ, ≤ℤ-antisym, <ℤ-sucℤ, ≤ℤ-sub, <ℤ-sub, +ℤ-mono-≤, +ℤ-mono-<-≤, +ℤ-mono-≤-<, *ℤ-nonneg, *ℤ-pos, square-nonneg}
+use Rattle.integers.proofs.Order.{≰ℤ-<ℤ, ≮ℤ-≤ℤ, <ℤ-≤ℤ, ≤ℤ-antisym, <ℤ-sucℤ, ≤ℤ-sub, <ℤ-sub, +ℤ-mono-≤}
+use Rattle.integers.proofs.Order.{+ℤ-mono-<-≤, +ℤ-mono-≤-<, *ℤ-nonneg, *ℤ-pos, square-nonneg}
 use Rattle.integers.proofs.Polynomial.{Expr, var, lit, _⊕_, _⊖_, _⊗_, ⊝_, eval, null, null-eval}
 
 infix 71 _≺_ _≼_ _≗_

@@ -1,8 +1,10 @@
 -- Laws of the order of fractions, and of the parts that decide it, over plain natural numbers.
 --     Means o x y            what the answer o says of x and y
---     order-iff              `order x y` is Less exactly when x < y, Equal exactly when x ≡ y, Greater exactly when y < x;
+--     order-iff              `order x y` is Less exactly when x < y, Equal exactly when x ≡ y, Greater exactly when
+--                            y < x;
 --                            its two halves are order-means and order-unique
---     then, order-by-parts   the key: two numbers' high parts and then their low parts, of 32 bits, decide as the numbers do
+--     then, order-by-parts   the key: two numbers' high parts and then their low parts, of 32 bits, decide as the
+--                            numbers do
 --     product-parts          the parts of a product, as `product` computes them
 --     low-fits, high-fits    what it computes fits 64 bits
 use mathlib.Core.Path.{_≡_, refl, subst}
@@ -13,7 +15,7 @@ use native.Mathlib.Omega.{arith}
 use native.Mathlib.Decide.{decLt}
 use borrow.Author.Tests.{lt-ltb, le-ltb}
 use lib.Dec.{lit<}
-use Rattle.integers.specs.Fraction.{order}
+use Rattle.integers.specs.code.Fraction.{order}
 use Rattle.integers.specs.declared.fraction.Parts.{Parts}
 use Rattle.integers.specs.declared.fraction.Order.{Order}
 use Rattle.integers.specs.declared.fraction.Order.the-variants.{Less, Equal, Greater}
@@ -62,8 +64,8 @@ then Less o = Less
 then Equal o = o
 then Greater o = Greater
 
--- The key. A cross product may need 96 bits, and this law is why it need not be held in one number: high parts that differ decide, and
--- where they are equal only the low parts are left to compare.
+-- The key. A cross product may need 96 bits, and this law is why it need not be held in one number: high parts that
+-- differ decide, and where they are equal only the low parts are left to compare.
 pub order-by-parts : (m n : ℕ) → order m n ≡ then (order (m / 2 ^ 32) (n / 2 ^ 32)) (order (m % 2 ^ 32) (n % 2 ^ 32))
 order-by-parts m n = by-high (order (m / 2 ^ 32) (n / 2 ^ 32)) (order-means _ _)
   where

@@ -6,7 +6,8 @@
 --     notGreater-zero                       only 0 is not greater than 0
 use Prim.Native.Nat.{_<_}
 use mathlib.Core.Logic.{_↔_, inl, inr}
-use native.Mathlib.Nat.{zero-mul, mul-pos, eq-zero-or-pos, le-of-lt, le-of-mul-le-mul-right, le-refl, lt-of-not-le, mul-le-mul-right, not-le-of-lt}
+use native.Mathlib.Nat.{zero-mul, mul-pos, eq-zero-or-pos, le-of-lt, le-of-mul-le-mul-right, le-refl, lt-of-not-le}
+use native.Mathlib.Nat.{mul-le-mul-right, not-le-of-lt}
 use native.Mathlib.Omega.{arith}
 use borrow.Author.Tests.{lt-ltb, le-ltb, ltb-true, ltb-false}
 use mathlib.Core.Path.{_≡_}

@@ -1,5 +1,5 @@
--- The order of the integers, as far as `lib.Signed` lacks it. Its tests `leZ` and `ltZ` keep their value when both sides move by
--- one number (`leZ-+ℤ`); most of the rest follows from that.
+-- The order of the integers, as far as `lib.Signed` lacks it. Its tests `leZ` and `ltZ` keep their value when both
+-- sides move by one number (`leZ-+ℤ`); most of the rest follows from that.
 --   leZ-true leZ-false ltZ-true ltZ-false   what a test says
 --   ≤ℤ-leZ ≤ℤ-ltZ <ℤ-ltZ <ℤ-leZ            and back: the test passes, or the one the other way round fails
 --   leZ-not                                 one test fails where the other passes

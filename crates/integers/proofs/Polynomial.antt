@@ -3,9 +3,9 @@
 --   eval env e                     its value; unfolds everywhere
 --   same l r, null e               are the two equal, is it 0, as polynomials?
 --   solve env l r tt               eval env l ≡ eval env r, where they are the same polynomial
---   null-eval env e tt             eval env e ≡ 0, where e is the polynomial 0
--- The normal form nests the variables: a constant, or a variable times one polynomial plus another, the variables sorted. So no list
--- of monomials is ever compared: an identity of degree 4 in 8 variables with 330 monomials takes about a tenth of a second.
+-- null-eval env e tt             eval env e ≡ 0, where e is the polynomial 0 The normal form nests the variables: a
+-- constant, or a variable times one polynomial plus another, the variables sorted. So no list of monomials is ever
+-- compared: an identity of degree 4 in 8 variables with 330 monomials takes about a tenth of a second.
 use mathlib.Core.Path.{_≡_, refl, sym, _∙_, ap, ap₂}
 use mathlib.Core.Bool.{Bool, true, false, _&&_}
 use mathlib.Core.List.{List}
@@ -15,7 +15,8 @@ use mir.Facts.{and-yes}
 use lib.ListN.{getD}
 use lib.IntN.{ℤ, pos, negsuc, negℤ, _+ℤ_, _-ℤ_, _*ℤ_}
 use lib.IntN.{+ℤ-idl, +ℤ-idr, +ℤ-assoc, *ℤ-zero, *ℤ-comm, -ℤ-+ℤ-cancel}
-use Rattle.integers.proofs.Ring.{*ℤ-distrib-+ℤ, +ℤ-distrib-*ℤ, *ℤ-assoc, one-*ℤ, negℤ-*ℤ, +ℤ-swap, +ℤ-left, *ℤ-left}
+use Rattle.integers.proofs.Ring.{*ℤ-distrib-+ℤ, +ℤ-distrib-*ℤ, *ℤ-assoc, one-*ℤ, negℤ-*ℤ, +ℤ-swap, +ℤ-left}
+use Rattle.integers.proofs.Ring.{*ℤ-left}
 
 infixl 75 _⊕_ _⊖_
 infixl 80 _⊗_

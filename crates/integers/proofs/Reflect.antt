@@ -13,10 +13,10 @@ use mathlib.Core.Logic.{_↔_, _⊎_, inl, inr, Iff·trans, Iff·symm}
 use mathlib.Core.Bool.{Bool, true, false, not, _&&_, _||_, true≢false, false≢true}
 use borrow.Author.Tests.{not-true, eqb-true, eq-eqb, ltb-true, lt-ltb, leb-true, le-leb}
 use lib.Dec.{eqb, ltb, leb}
-use lib.IntN.{ℤ, pos, negsuc}
-use lib.Signed.{leZ, _≤ℤ_}
+use lib.IntN.{ℤ, pos}
+use lib.Signed.{leZ, _≤ℤ_, ≤ℤ-refl}
 use Rattle.integers.specs.Equal.{eqZ}
-use Rattle.integers.proofs.Order.{leZ-true, ≤ℤ-leZ}
+use Rattle.integers.proofs.Order.{leZ-true, ≤ℤ-leZ, ≤ℤ-antisym}
 
 module _ {P : Type 0} where
   pub test-false : (b : Bool) → ((b ≡ true) ↔ P) → ((b ≡ false) ↔ (¬ P))
@@ -58,10 +58,10 @@ pub ≤-≤ℤ : (a b : ℕ) → (a ≤ b) ↔ (pos a ≤ℤ pos b)
 ≤-≤ℤ a b = Iff·trans (Iff·symm (test-leb a b)) (test-leZ (pos a) (pos b))
 
 pub test-eqZ : (a b : ℤ) → (eqZ a b ≡ true) ↔ (a ≡ b)
-test-eqZ (pos a) (pos b) = (λ e. ap pos (eqb-true a b e), λ e. eq-eqb a b (cc))
-test-eqZ (pos a) (negsuc b) = (λ e. absurd (false≢true e), λ e. cc)
-test-eqZ (negsuc a) (pos b) = (λ e. absurd (false≢true e), λ e. cc)
-test-eqZ (negsuc a) (negsuc b) = (λ e. ap negsuc (eqb-true a b e), λ e. eq-eqb a b (cc))
+test-eqZ a b = Iff·trans (test-and (leZ a b) (leZ b a) (test-leZ a b) (test-leZ b a)) (
+  λ (below, above). ≤ℤ-antisym below above,
+  λ e. (rw e (≤ℤ-refl b), rw e (≤ℤ-refl b)),
+)
 
 module _ {a r : Bool} (b : Bool) (first : r ≡ a) where
   pub and-then : {s : Bool} → s ≡ b → r ≡ true → s ≡ (a && b)

@@ -1,12 +1,14 @@
--- The whole part of a square root, as `specs/Root.antt` computes it.
+-- The whole part of a square root, as `specs/code/Root.antt` computes it.
 --     IsRoot                 r is the largest number whose square is not above n
 --     root-square            `root n` is
 --     root-odd, root-even    it is 2r + 1, with r the root of n / 4, where (2r + 1)² is not above n, and 2r where it is
 --     odd-fits               with r the root of a number of 62 bits, (2r + 1)² fits 64
 --     floor-root             the root of a fraction's whole part is the whole part of the fraction's root
+--     floor-unique           which is one number
 --     root-mono              and it grows with the fraction's value
 use Prim.Native.Nat.{ℕ, zero, suc, _+_, _*_, _/_, _^_, _<_, _≤_}
-use native.Mathlib.Nat.{le-antisymm, le-div-iff-mul-le, le-of-lt, le-of-suc-le-suc, le-trans, lt-of-not-le, mul-le-mul, mul-le-mul-right, mul-one, not-le-of-lt}
+use native.Mathlib.Nat.{le-antisymm, le-div-iff-mul-le, le-of-lt, le-of-suc-le-suc, le-trans, lt-of-not-le}
+use native.Mathlib.Nat.{mul-le-mul, mul-le-mul-right, mul-one, not-le-of-lt}
 use native.Mathlib.Omega.{arith}
 use borrow.Author.Tests.{leb-true, leb-false, le-leb, lt-leb}
 use mathlib.Core.Path.{_≡_, refl}
@@ -14,7 +16,8 @@ use mathlib.Core.Bool.{Bool, true, false, cond}
 use lib.Dec.{leb}
 use Rattle.integers.specs.declared.fraction.Fraction.{Fraction}
 use Rattle.integers.specs.Fraction.{NotGreater}
-use Rattle.integers.specs.Root.{doubled, rootBy, root, FloorRoot}
+use Rattle.integers.specs.code.Root.{doubled, rootBy, root}
+use Rattle.integers.specs.Root.{FloorRoot}
 use Rattle.integers.proofs.FractionOrder.{notGreater-trans}
 
 -- r² ≤ n < (r + 1)²
@@ -76,6 +79,10 @@ floor-root g positive =
       not-above = le-div-iff-mul-le positive .0 (is .not-above);
       largest = λ k below. root-largest k is (le-div-iff-mul-le positive .1 below);
     }
+
+-- neither is above the other
+pub floor-unique : {g : Fraction} {m k : ℕ} → FloorRoot g m → FloorRoot g k → m ≡ k
+floor-unique {m = m} {k} one other = le-antisymm (other .largest m (one .not-above)) (one .largest k (other .not-above))
 
 -- The square of g's root, as a fraction over 1, is not greater than g, and so not greater than h.
 pub root-mono : (g h : Fraction) → 0 < g .lower → 0 < h .lower → NotGreater g h → root (g .upper / g .lower) ≤ root (h .upper / h .lower)

@@ -1,5 +1,6 @@
--- What contracts say of whole numbers.
+-- What contracts say of whole numbers and fractions.
 pub mod Size
 pub mod Equal
 pub mod Fraction
 pub mod Root
+pub mod code

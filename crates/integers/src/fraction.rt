@@ -1,7 +1,7 @@
 // Exact fractions of natural numbers, and their order.
 ghost use mathlib.Core.Path.{_≡_};
 ghost use Prim.Native.Nat.{_*_, _/_, _%_, _^_, _<_};
-ghost use Rattle.integers.specs.Fraction.{order, Bounded};
+ghost use Rattle.integers.specs.code.Fraction.{order, Bounded};
 
 // An upper number over a lower number. It is never reduced.
 pub struct Fraction {
@@ -49,8 +49,8 @@ fn product(x: u64, y: u64) -> Parts
     }
 }
 
-// The order of two fractions: exactly that of their cross products, with nothing lost to 64 bits. The high parts decide, and where
-// these are equal the low parts do.
+// The order of two fractions: exactly that of their cross products, with nothing lost to 64 bits. The high parts
+// decide, and where these are equal the low parts do.
 pub fn compare(a: Fraction, b: Fraction) -> Order
     requires { ⌜ Bounded a × Bounded b ⌝ }
     ensures { λ r. ⌜ r ≡ order (a .upper * b .lower) (b .upper * a .lower) ⌝ }

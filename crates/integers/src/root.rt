@@ -1,6 +1,6 @@
 // The whole part of a square root.
 ghost use mathlib.Core.Path.{_≡_};
-ghost use Rattle.integers.specs.Root.{root};
+ghost use Rattle.integers.specs.code.Root.{root};
 
 // The largest number whose square is not above n: twice that of n / 4, or one more. It calls itself at most 32 times,
 // one inside the other.

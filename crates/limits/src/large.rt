@@ -1,5 +1,6 @@
-// A strictly convex outline with 256 corners: 127 steps of one to the right that rise by 0, 1, .. 126, one step up, the same
-// steps back, to the left and down, and one step down. Each step turns left from the one before it, once around in all.
+// A strictly convex outline with 256 corners: 127 steps of one to the right that rise by 0, 1, .. 126, one step up,
+// the same steps back, to the left and down, and one step down. Each step turns left from the one before it, once
+// around in all.
 ghost use Prim.Native.Nat.{_<_};
 
 // Writes corner i, which lies y above corner 0, and corner 128 + i, which lies y below corner 128.

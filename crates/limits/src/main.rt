@@ -1,4 +1,4 @@
-// The worked examples of document 01 about reading an outline and removing a corner, and cases at the limits, run through the
+// The examples about reading an outline and removing a corner, and cases at the limits, run through the
 // public calls. Each prints one line.
 mod large;
 mod report;
@@ -10,7 +10,7 @@ const TRIANGLE: [i32; 6] = [0, 0, 4, 0, 0, 4];
 // The square with the largest coordinates.
 const LARGEST: [i32; 8] = [-16000, -16000, 16000, -16000, 16000, 16000, -16000, 16000];
 
-// Document 01's star, which turns left at each corner.
+// A star, which turns left at each corner.
 const STAR: [i32; 10] = [0, 3, -2, -3, 3, 1, -3, 1, 2, -3];
 
 // 4: the ends of the range, the first numbers past them, and i32's ends.

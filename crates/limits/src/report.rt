@@ -1,4 +1,4 @@
-// The lines of the program: a name, then `taken` or `refused` with document 01's number and place, then how many corners
+// The lines of the program: a name, then `taken` or `refused` with number and place, then how many corners
 // were read, or the list that was lent to a removal.
 use outline::Refusal;
 use outline::Verdict;

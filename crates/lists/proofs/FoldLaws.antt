@@ -1,15 +1,30 @@
--- A test that passes at each place below n.
---     all-true            `all` holds exactly then
+-- What is made of the values at 0, 1, .. below n.
+--     joined-member       the members of lists one after the other are those of the lists
+--     all-true            `all` holds exactly where the test passes at each place
 --     Passing, pass-..    the invariant of a loop that makes the tests in order, and its steps
 use Prim.Native.Nat.{ℕ, zero, suc, _+_, _<_, _≤_}
 use native.Mathlib.Nat.{eq-or-lt-of-le, le-of-suc-le-suc}
 use native.Mathlib.Numerals.{add-one}
 use native.Mathlib.Omega.{arith}
 use mathlib.Core.Bool.{Bool, true, false, true≢false}
+use mathlib.Core.List.{List, List·Memᴰ, List·Memᴰ·not-nil, List·Memᴰ·append-cases}
+use mathlib.Core.List.{Memᴰ·append-left, Memᴰ·append-right}
 use mathlib.Core.Logic.{_↔_, Iff·trans, ⊎-elim}
 use mathlib.Core.Path.{_≡_, refl, sym, _∙_}
 use Rattle.integers.proofs.Reflect.{test-and, test-false}
-use Rattle.lists.specs.Fold.{fold, all}
+use Rattle.lists.specs.Fold.{fold, joined, all}
+
+pub joined-member : {X : Type 0} (part : ℕ → List X) (n : ℕ) (x : X)
+    → List·Memᴰ x (joined part n) ↔ ((i : ℕ) × (i < n) × List·Memᴰ x (part i))
+unfolding fold
+joined-member part zero x = (λ there. absurd (List·Memᴰ·not-nil there), λ (i, below, _). absurd (omega arith))
+joined-member part (suc n) x = (
+  λ there. ⊎-elim (λ before. let (i, below, here) = joined-member part n x .0 before in (i, omega arith, here))
+      (λ here. (n, omega arith, here)) (List·Memᴰ·append-cases (joined part n) there),
+  λ (i, below, here). ⊎-elim (λ is. Memᴰ·append-right (joined part n) (rw is at here))
+      (λ lower. Memᴰ·append-left (part n) (joined-member part n x .1 (i, lower, here)))
+      (eq-or-lt-of-le (le-of-suc-le-suc below)),
+)
 
 pub all-true : (test : ℕ → Bool) (n : ℕ) → (all test n ≡ true) ↔ ((i : ℕ) → i < n → test i ≡ true)
 unfolding fold

@@ -1,16 +1,20 @@
 -- Sorting by insertion, with any test, and lists whose elements are related in pairs.
---     arranged-member, arranged-length    lists with the same elements, each as often, have the same members and the same length
+--     arranged-member, arranged-length    lists with the same elements, each as often, have the same members and
+--                                         the same length
 --     related-cons           an element that is related to all of a list may stand before it
 --     related-map            a relation that follows for the members of a list
 --     sort-arranges          the sorted list has the same elements, each as often
---     Sorted, sort-sorted    no element is to come before an earlier one; so it is once sorted, where the test is a strict order
+--     Sorted, sort-sorted    no element is to come before an earlier one; so it is once sorted, where the test is a
+--                            strict order
 use Prim.Native.Nat.{suc}
 use mathlib.Core.Path.{_≡_, refl, sym, ap, _∙_}
 use mathlib.Core.Logic.{⊎-elim, Iff·rfl, ∥∥₁-elim}
 use mathlib.Core.Bool.{Bool, true, false, cond, Bool-set, true≢false}
-use mathlib.Core.List.{List, [], _∷_, List·Memᴰ, List·Memᴰ·head, List·Memᴰ·tail, List·Memᴰ·cases-cons, List·Memᴰ·not-nil}
+use mathlib.Core.List.{List, [], _∷_, List·Memᴰ, List·Memᴰ·head, List·Memᴰ·tail, List·Memᴰ·cases-cons}
+use mathlib.Core.List.{List·Memᴰ·not-nil}
 use mathlib.Core.List.{List·Permᴰ, List·Permᴰ·nil, List·Permᴰ·cons, List·Permᴰ·swap, List·Permᴰ·trans, Permᴰ·refl}
-use mathlib.Core.List.{Pairwise, Pairwise·nil, Pairwise·cons, rel-of-pairwise-cons, Pairwise·of-cons, Pairwise·imp-of-mem}
+use mathlib.Core.List.{Pairwise, Pairwise·nil, Pairwise·cons, rel-of-pairwise-cons, Pairwise·of-cons}
+use mathlib.Core.List.{Pairwise·imp-of-mem}
 use lib.ListN.{length}
 use Rattle.integers.proofs.Reflect.{test-false}
 use Rattle.lists.specs.Lists.{insert, sort}

@@ -10,7 +10,7 @@ use Rattle.hausdorff.specs.declared.CornerGap.{CornerGap}
 use Rattle.hausdorff.specs.declared.WorstSoFar.{WorstSoFar}
 use Rattle.hausdorff.specs.declared.WorstSoFar.the-variants.{None, Worst}
 use Rattle.hausdorff.specs.CornerGap.{withCorner}
-use Rattle.hausdorff.specs.Worst.{keep}
+use Rattle.hausdorff.specs.code.Worst.{keep}
 use Rattle.measuring.specs.declared.Window.{Window}
 use Rattle.measuring.specs.declared.LocalFeature.{LocalFeature}
 use Rattle.measuring.specs.LocalFeature.{isNotCounted, localValues, localWorst}

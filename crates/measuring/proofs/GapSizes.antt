@@ -1,4 +1,5 @@
--- The gaps that a sweep compares have lower numbers above 0 and below 2^32, so that they are compared exactly in 64 bits.
+-- The gaps that a sweep compares have lower numbers above 0 and below 2^32, so that they are compared exactly in 64
+-- bits.
 --     localValues-bounded    the gap of a local feature of a window
 --     worst-bounded          the worst so far of a side after k steps
 use Prim.Native.Nat.{ℕ, _<_}
@@ -8,7 +9,7 @@ use native.Mathlib.Nat.{lt-of-le-of-lt}
 use native.Mathlib.Omega.{arith}
 use lib.Dec.{lit<, ltb→lt}
 use lib.ListN.{length}
-use Rattle.integers.specs.Fraction.{Bounded}
+use Rattle.integers.specs.code.Fraction.{Bounded}
 use Rattle.plane.specs.declared.Corner.{Corner}
 use Rattle.plane.specs.declared.Vector.{Vector}
 use Rattle.plane.specs.Vector.{_⇀_}
@@ -19,15 +20,16 @@ use Rattle.outline.proofs.CornersLaws.{previous-below, next-previous}
 use Rattle.nearest.specs.declared.Feature.{Feature}
 use Rattle.nearest.specs.declared.Feature.the-variants as Feature
 use Rattle.nearest.specs.Feature.{edgeGap, values}
-use Rattle.nearest.specs.Local.{Tested, feature}
+use Rattle.nearest.specs.code.Local.{Tested, feature}
 use Rattle.nearest.proofs.AnswerLaws.{feature-tested}
 use Rattle.outline.specs.declared.Side.{Side}
 use Rattle.hausdorff.specs.declared.CornerGap.{CornerGap}
 use Rattle.hausdorff.specs.declared.WorstSoFar.{WorstSoFar}
 use Rattle.hausdorff.specs.declared.WorstSoFar.the-variants.{None, Worst}
-use Rattle.hausdorff.specs.Pair.{Pair, AcceptedPair, other}
+use Rattle.hausdorff.specs.Pair.{Pair, other}
+use Rattle.hausdorff.specs.code.Pair.{AcceptedPair}
 use Rattle.hausdorff.specs.Counted.{Counted}
-use Rattle.hausdorff.specs.Sweep.{after}
+use Rattle.hausdorff.specs.code.Sweep.{worstAfter}
 use Rattle.hausdorff.proofs.WorstLaws.{WorstOf, worst-after}
 use Rattle.measuring.specs.declared.Window.{Window}
 use Rattle.measuring.specs.declared.LocalFeature.{LocalFeature}
@@ -73,10 +75,10 @@ localValues-bounded {w} window v f =
     (window-bounded (window .accepted) (w .number) (window .known) v f)
 
 -- the worst so far is the gap of a corner to the other outline
-pub worst-bounded : (pair : Pair) → AcceptedPair pair → (k : ℕ) (s : Side) → BoundedWorst (after pair k .worst s)
-worst-bounded pair ok k s = go (after pair k .worst s) (worst-after pair (λ t. accepted-polygon (ok t)) s k)
+pub worst-bounded : (pair : Pair) → AcceptedPair pair → (k : ℕ) (s : Side) → BoundedWorst (worstAfter pair k s)
+worst-bounded pair ok k s = go (worstAfter pair k s) (worst-after pair (λ t. accepted-polygon (ok t)) s k)
   where
-    go : (x : WorstSoFar) → WorstOf pair s (Counted pair s k) x → BoundedWorst x
+    go : (x : WorstSoFar) → WorstOf pair s (Counted pair k s) x → BoundedWorst x
     go None none = tt
     go (Worst w) best =
         let v = corner (pair s) (w .corner) in

@@ -1,4 +1,4 @@
--- Measuring by the window of a support corner finds what document 01's measuring finds.
+-- Measuring by the window of a support corner finds what measuring the whole outline finds.
 pub mod WindowLaws
 pub mod LocalFeatureLaws
 pub mod GapSizes

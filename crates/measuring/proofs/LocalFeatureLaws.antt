@@ -3,13 +3,15 @@
 --     partAfter, partBefore      the part of these edges that v is nearest to
 --     byParts-counted            what they tell together is v's nearest feature, if v counts, and else none
 --     byParts-window             the same of any window of an accepted outline
--- The part of an edge says which of its local tests hold (`part-means`); that v is not a corner itself is told by the sides of the two edges
--- there (`corner-by-right`). A point counts exactly where its nearest feature is at the support corner, and only one feature
--- has a local test that holds; so a part that is found is that feature, and if none is, the point does not count.
+-- The part of an edge says which of its local tests hold (`part-means`); that v is not a corner itself is told by
+-- the sides of the two edges there (`corner-by-right`). A point counts exactly where its nearest feature is at the
+-- support corner, and only one feature has a local test that holds; so a part that is found is that feature, and if
+-- none is, the point does not count.
 use Prim.Native.Nat.{ℕ, _<_}
 use mathlib.Core.Path.{_≡_, refl, sym, ap, subst, _∙_}
 use mathlib.Core.Logic.{_↔_, Iff·rfl, inl, inr}
-use mathlib.Core.Bool.{Bool, true, false, cond, not, _&&_, _||_, true≢false, false≢true, and-true, and-false, and-comm, or-comm}
+use mathlib.Core.Bool.{Bool, true, false, cond, not, _&&_, _||_, true≢false, false≢true, and-true, and-false}
+use mathlib.Core.Bool.{and-comm, or-comm}
 use mathlib.Core.List.{List, [], _∷_}
 use native.Mathlib.Omega.{arith}
 use lib.IntN.{ℤ, pos, _-ℤ_}
@@ -19,10 +21,11 @@ use Rattle.integers.proofs.Order.{leZ-not, ltZ-true, ltZ-false, <ℤ-ltZ, ≤�
 use Rattle.integers.proofs.Polynomial.{_⊖_, solve}
 use Rattle.integers.proofs.Reflect.{test-same, test-false, test-or}
 use Rattle.plane.specs.declared.Corner.{Corner}
-use Rattle.plane.specs.Vector.{_⇀_, cross, dot, side, isLeft, isRight, same, coordinates}
+use Rattle.plane.specs.Vector.{_⇀_, cross, dot, side, coordinates}
+use Rattle.plane.specs.code.Tests.{isLeft, isRight, same}
 use Rattle.plane.proofs.Algebra.{O, vec, dotE, sideE, _⇀E_, side-start, side-stop}
 use Rattle.plane.proofs.Tests.{same-true}
-use Rattle.outline.specs.Convex.{Polygon}
+use Rattle.outline.specs.code.Polygon.{Polygon}
 use Rattle.outline.specs.Corners.{corner, next, previous}
 use Rattle.outline.proofs.EdgeLaws.{accepted-polygon, length-above-0}
 use Rattle.outline.proofs.CornersLaws.{next-below, previous-below, next-previous, previous-next}
@@ -30,7 +33,8 @@ use Rattle.nearest.specs.declared.Feature.{Feature}
 use Rattle.nearest.specs.declared.Feature.the-variants as Feature
 use Rattle.projection.specs.declared.local.Part.{Part}
 use Rattle.projection.specs.declared.local.Part.the-variants.{None, Start, Between, End}
-use Rattle.nearest.specs.Local.{along, squaredLength, footIsBetween, edgeIsNearest, isCorner, isEdge, Tested, feature}
+use Rattle.nearest.specs.code.Local.{along, squaredLength, footIsBetween, edgeIsNearest, isCorner, isEdge, Tested}
+use Rattle.nearest.specs.code.Local.{feature}
 use Rattle.nearest.proofs.AnswerLaws.{feature-tested, feature-iff}
 use Rattle.nearest.proofs.LocalLaws.{corner-visible}
 use Rattle.hausdorff.proofs.CountingLaws.{counted-iff}
@@ -88,8 +92,8 @@ edge-back v p q = rw (side-back v p q, foot-back v p q, ← foot-back v q p, and
 
 -- ---- the part of an edge
 
--- the tests of an edge at the support corner: v is nearest to the edge, v is nearest to its other end, v's foot is not past the support
--- corner
+-- the tests of an edge at the support corner: v is nearest to the edge, v is nearest to its other end, v's foot is
+-- not past the support corner
 record Tests : Type 0 where
   pub edge : Bool
   pub end : Bool
@@ -108,8 +112,8 @@ Means tests Start = Neither tests true
 Means tests Between = tests .edge ≡ true
 Means tests End = tests .end ≡ true
 
--- the tests that the code makes: the foot is past the support corner, it is before the other end, v is strictly right of the edge, and
--- `endIsNearest`
+-- the tests that the code makes: the foot is past the support corner, it is before the other end, v is strictly
+-- right of the edge, and `endIsNearest`
 by-tests : (past before right end : Bool) → (past ≡ false → before ≡ true)
     → Means (record { edge = right && (past && before); end = end && not before; start = not past })
     (cond (not past) Start (cond before (cond right Between None) (cond end End None)))
@@ -149,7 +153,8 @@ stands-in false false t false held other = refl
 stands-in false true true false held other = absurd (false≢true (held refl))
 stands-in false true false false held other = refl
 
--- Of the points whose foot is past a corner on neither of its edges, the corner alone is strictly right of neither (`corner-visible`).
+-- Of the points whose foot is past a corner on neither of its edges, the corner alone is strictly right of neither
+-- (`corner-visible`).
 corner-by-right : {cs : List Corner} → Polygon cs → (v : Corner) (i : ℕ) → i < length cs → (let n = length cs in
     let p = corner cs (previous n i) in let c = corner cs i in let q = corner cs (next n i) in
     isCorner cs v i
@@ -254,7 +259,8 @@ module _ {cs : List Corner} (polygon : Polygon cs) (b : ℕ) (below : b < length
   at-corner x y true is = counted (Feature.Corner b) (below, corner-is x y ∙ (rw is)) (inl refl)
   at-corner x y false is = uncounted x y (corner-is x y ∙ (rw is))
 
-  -- the edge after is asked first; where it has the nearest feature, the edge before says nothing else, since there is only one
+  -- the edge after is asked first; where it has the nearest feature, the edge before says nothing else, since there
+  -- is only one
   byParts-means : (f g : Part) → Means testsAfter f → Means testsBefore g
       → featureOf w (byParts f g (cornerIf (rightAfter v w) (rightBefore v w))) ≡ countedFeature cs b v
   byParts-means Between g x y = counted (Feature.Edge b) (below, x) (inl refl)

@@ -1,10 +1,5 @@
 -- What measuring finds, told from a window. For the code alone: `proofs/LocalFeatureLaws.antt` shows that it is the
 -- nearest feature.
---     countedFeature    v's nearest feature in an outline with support corner b, if v counts; else Within
---     featureOf         the feature that is meant by a local feature of a window; Within for none
---     isNotCounted      the test for none
---     localValues       its gap and its point, from the corners of the window
---     localWorst        what measuring finds of corner i, at v: none, or the corner with its gap
 use Prim.Native.Nat.{ℕ}
 use mathlib.Core.Bool.{Bool, true, false, cond}
 use mathlib.Core.List.{List}
@@ -14,19 +9,21 @@ use Rattle.nearest.specs.declared.Feature.{Feature}
 use Rattle.nearest.specs.declared.Feature.the-variants as Feature
 use Rattle.nearest.specs.declared.NearestPoint.{NearestPoint}
 use Rattle.nearest.specs.Feature.{withinValues, cornerValues, edgeValues}
-use Rattle.nearest.specs.Local.{feature}
+use Rattle.nearest.specs.code.Local.{feature}
 use Rattle.outline.specs.declared.Side.{Side}
 use Rattle.hausdorff.specs.declared.WorstSoFar.{WorstSoFar}
 use Rattle.hausdorff.specs.declared.WorstSoFar.the-variants.{None, Worst}
-use Rattle.hausdorff.specs.Counting.{isCounted}
+use Rattle.hausdorff.specs.code.Counting.{isCounted}
 use Rattle.hausdorff.specs.CornerGap.{withCorner}
 use Rattle.measuring.specs.declared.Window.{Window}
 use Rattle.measuring.specs.declared.LocalFeature.{LocalFeature}
 use Rattle.measuring.specs.declared.LocalFeature.the-variants as LocalFeature
 
+-- v's nearest feature in an outline with support corner b, if v counts; else Within
 abbrev pub countedFeature : List Corner → ℕ → Corner → Feature
 countedFeature cs b v = cond (isCounted cs b v) (feature cs v) Feature.Within
 
+-- the feature that is meant by a local feature of a window; Within for none
 abbrev pub featureOf : Window → LocalFeature → Feature
 featureOf w LocalFeature.NotCounted = Feature.Within
 featureOf w LocalFeature.Corner = Feature.Corner (w .number)
@@ -35,6 +32,7 @@ featureOf w LocalFeature.EdgeBefore = Feature.Edge (previous (w .count) (w .numb
 featureOf w LocalFeature.CornerAfter = Feature.Corner (next (w .count) (w .number))
 featureOf w LocalFeature.CornerBefore = Feature.Corner (previous (w .count) (w .number))
 
+-- the local feature is none: the corner does not count
 abbrev pub isNotCounted : LocalFeature → Bool
 isNotCounted LocalFeature.NotCounted = true
 isNotCounted LocalFeature.Corner = false
@@ -43,6 +41,7 @@ isNotCounted LocalFeature.EdgeBefore = false
 isNotCounted LocalFeature.CornerAfter = false
 isNotCounted LocalFeature.CornerBefore = false
 
+-- the gap and the point of a local feature, from the corners of the window
 abbrev pub localValues : Corner → Window → LocalFeature → NearestPoint
 localValues v w LocalFeature.NotCounted = withinValues v
 localValues v w LocalFeature.Corner = cornerValues v (w .number) (w .corner)
@@ -51,5 +50,6 @@ localValues v w LocalFeature.EdgeBefore = edgeValues v (previous (w .count) (w .
 localValues v w LocalFeature.CornerAfter = cornerValues v (next (w .count) (w .number)) (w .after)
 localValues v w LocalFeature.CornerBefore = cornerValues v (previous (w .count) (w .number)) (w .before)
 
+-- what measuring finds of corner i, at v: none, or the corner with its gap
 abbrev pub localWorst : Side → ℕ → Corner → Window → LocalFeature → WorstSoFar
 localWorst s i v w f = cond (isNotCounted f) None (Worst (withCorner s i (localValues v w f)))

@@ -1,6 +1,4 @@
 -- What a step sees of an outline. For the code alone: `proofs/WindowLaws.antt` shows what a window says of its corners.
---     windowAt    the support corner b of an outline and the two corners on either side, counted round the outline
---     IsWindow    a window is that of an accepted outline at one of its corners
 use Prim.Native.Nat.{ℕ, _<_}
 use mathlib.Core.Path.{_≡_}
 use mathlib.Core.List.{List}
@@ -10,6 +8,7 @@ use Rattle.outline.specs.Convex.{Accepted}
 use Rattle.outline.specs.Corners.{corner, next, previous}
 use Rattle.measuring.specs.declared.Window.{Window}
 
+-- the support corner b of an outline and the two corners on either side, counted round the outline
 abbrev pub windowAt : List Corner → ℕ → Window
 windowAt cs b = record {
   count = length cs;
@@ -21,6 +20,7 @@ windowAt cs b = record {
   later = corner cs (next (length cs) (next (length cs) b));
 }
 
+-- a window is that of an accepted outline at one of its corners
 pub record IsWindow (w : Window) : Type 0 where
   pub outline : List Corner
   pub accepted : Accepted outline

@@ -13,10 +13,11 @@ use projection::local::Part;
 use reading::corners;
 ghost use mathlib.Core.Path.{_≡_};
 ghost use Prim.Native.Nat.{ℕ};
-ghost use Rattle.integers.specs.Fraction.{Bounded};
-ghost use Rattle.plane.specs.Range.{InRange, Span, reach};
+ghost use Rattle.integers.specs.code.Fraction.{Bounded};
+ghost use Rattle.plane.specs.Range.{InRange};
+ghost use Rattle.plane.specs.code.Range.{Span, reach};
 ghost use Rattle.hausdorff.specs.CornerGap.{withCorner};
-ghost use Rattle.hausdorff.specs.Worst.{keep};
+ghost use Rattle.hausdorff.specs.code.Worst.{keep};
 ghost use Rattle.measuring.specs.Window.{IsWindow};
 ghost use Rattle.measuring.specs.LocalFeature.{featureOf, countedFeature, isNotCounted, localValues, localWorst};
 ghost use Rattle.measuring.specs.EdgePart.{endIsNearest, edgePart, cornerIf, byParts};
@@ -45,10 +46,11 @@ pub enum LocalFeature {
     CornerBefore,
 }
 
-// Whether v, whose foot is not before the end of an edge, is nearest to this end: on the edge from there to `beyond` its foot is not past
-// `end` either, and v is not `end` itself, which alone of such points is strictly right of neither edge.
-// is_right: v is strictly right of the first edge; is_after: the other is the edge after `end`. The edge before `end`
-// runs from `beyond` to it, and so its right is the left of the line from `end` to `beyond`.
+// Whether v, whose foot is not before the end of an edge, is nearest to this end: on the edge from there to
+// `beyond` its foot is not past `end` either, and v is not `end` itself, which alone of such points is strictly
+// right of neither edge. is_right: v is strictly right of the first edge; is_after: the other is the edge after
+// `end`. The edge before `end` runs from `beyond` to it, and so its right is the left of the line from `end` to
+// `beyond`.
 fn end_is_nearest(v: Corner, is_right: bool, is_after: bool, end: Corner, beyond: Corner) -> bool
     requires { ⌜ InRange v ⌝ }
     requires { ⌜ InRange end ⌝ }
@@ -69,10 +71,10 @@ fn end_is_nearest(v: Corner, is_right: bool, is_after: bool, end: Corner, beyond
     plane::is_left(end, run, v)
 }
 
-// The part of an edge at the support corner that v is nearest to: `to` and `run` lead from this corner to v and to the edge's other end,
-// which is `end`; `beyond` is the next corner the same way round. is_right: v is strictly right of the edge; is_after: it is the edge after
-// the support corner.
-// Start: v's foot is at the support corner, or off the edge on that side; None: v is nearest to none of the edge's parts.
+// The part of an edge at the support corner that v is nearest to: `to` and `run` lead from this corner to v and to
+// the edge's other end, which is `end`; `beyond` is the next corner the same way round. is_right: v is strictly
+// right of the edge; is_after: it is the edge after the support corner. Start: v's foot is at the support corner,
+// or off the edge on that side; None: v is nearest to none of the edge's parts.
 fn edge_part(
     v: Corner,
     to: Vector,
@@ -105,8 +107,8 @@ fn edge_part(
     Part::None
 }
 
-// What is found for v whose feet are at the support corner, or off both edges on that side: this corner, if v is strictly right of one of
-// them. Of such points the corner itself alone is not.
+// What is found for v whose feet are at the support corner, or off both edges on that side: this corner, if v is
+// strictly right of one of them. Of such points the corner itself alone is not.
 fn corner_if(right_after: bool, right_before: bool) -> LocalFeature
     ensures { λ r. ⌜ r ≡ cornerIf «right_after» «right_before» ⌝ }
 {
@@ -119,7 +121,8 @@ fn corner_if(right_after: bool, right_before: bool) -> LocalFeature
     LocalFeature::NotCounted
 }
 
-// What the parts of the edge after the support corner and of the edge before it tell; `corner` is what is found if both are Start.
+// What the parts of the edge after the support corner and of the edge before it tell; `corner` is what is found if
+// both are Start.
 fn by_parts(after: Part, before: Part, corner: LocalFeature) -> LocalFeature
     ensures { λ r. ⌜ r ≡ byParts after before corner ⌝ }
 {
@@ -198,7 +201,8 @@ fn is_not_counted(f: LocalFeature) -> bool
     }
 }
 
-// Whether a corner with this gap takes the place of another of its side: its gap is greater, or equal and its number lower.
+// Whether a corner with this gap takes the place of another of its side: its gap is greater, or equal and its
+// number lower.
 fn is_worse(gap: Fraction, number: usize, old: CornerGap) -> bool
     requires { ⌜ Bounded gap ⌝ }
     requires { ⌜ Bounded (old .gap) ⌝ }

@@ -1,11 +1,13 @@
--- The answer that the local tests find is the one that document 01 lays down, for every polygon and every whole point.
+-- The answer that the local tests find is the one that rules 3.1 to 3.4 lay down, for every polygon and every whole
+-- point.
+--     values-feature               what is written for a feature names it
 --     feature-tested               the feature found is one whose test holds
---     tested-answers               such a feature gives an answer that document 01 lays down, so there is one
---     answers-iff                  there is only one: `nearest`
+--     tested-answers, nearest-is   such a feature gives an answer as laid down, so there is one: `nearest`
+--     answers-iff                  there is no other
 --     nearest-distance             its gap is the squared distance of its point
 --     feature-iff                  so there is only one feature whose test holds
 --     within-iff, gap-zero-iff     it is Within, and the gap is 0, exactly where v is in the piece
---     local-agrees                 so a feature is document 01's exactly where its local test holds
+--     local-agrees                 so a feature is the one laid down exactly where its local test holds
 --     foot-at-start, foot-at-end   a foot that falls on an end is a corner
 use Prim.Native.Nat.{ℕ, _<_}
 use mathlib.Core.Path.{_≡_, refl, sym, ap, subst, _∙_}
@@ -25,7 +27,7 @@ use Rattle.plane.specs.Point.{whole}
 use Rattle.plane.proofs.Points.{same-refl, whole-proper}
 use Rattle.plane.specs.Vector.{_⇀_, side}
 use Rattle.plane.proofs.Algebra.{O, dot-self, apart-0}
-use Rattle.outline.specs.Convex.{Polygon}
+use Rattle.outline.specs.code.Polygon.{Polygon}
 use Rattle.outline.specs.Corners.{corner, next}
 use Rattle.outline.proofs.CornersLaws.{next-below, previous-next}
 use Rattle.nearest.specs.declared.Feature.{Feature}
@@ -33,15 +35,16 @@ use Rattle.nearest.specs.declared.Feature.the-variants as Feature
 use Rattle.nearest.specs.declared.NearestPoint.{NearestPoint}
 use Rattle.nearest.specs.Piece.{InPiece}
 use Rattle.nearest.specs.Feature.{values}
-use Rattle.nearest.specs.Nearest.{SquaredDistance, Answers}
-use Rattle.nearest.specs.Local.{squaredLength, along, isCorner, isEdge, Tested}
-use Rattle.nearest.specs.Local.{featureAt, _orNext_, feature, nearest}
-use Rattle.nearest.proofs.DistanceLaws.{Known, squared-distance}
+use Rattle.nearest.specs.Nearest.{Nearest, Fits, Answers}
+use Rattle.nearest.specs.code.Local.{squaredLength, along, isCorner, isEdge, Tested}
+use Rattle.nearest.specs.code.Local.{featureAt, _orNext_, feature, nearest}
+use Rattle.nearest.proofs.DistanceLaws.{IsSquaredDistance, Known, values-distance, gap-order}
+use Rattle.nearest.proofs.DistanceLaws.{squaredDistance-is, distance-same}
 use Rattle.nearest.proofs.FitsLaws.{fits-unique}
 use Rattle.nearest.proofs.LocalLaws.{corner-nearest, edge-nearest, none-holds}
 use Rattle.nearest.proofs.Walk.{corner-test, edge-test, square-at-start, square-at-end}
 use Rattle.nearest.proofs.Support.{turns-left, turns-on}
-use Rattle.nearest.proofs.NearestLaws.{nearest-self, nearest-unique}
+use Rattle.nearest.proofs.NearestLaws.{nearest-self, none-nearer, nearest-unique}
 
 -- the first that is not Within
 priority : Priority _orNext_ Feature.Within
@@ -82,7 +85,8 @@ module _ (cs : List Corner) (v : Corner) where
       (λ none. some (sym (first .here) ∙ none)))))
       (fold-found priority (featureAt cs v) (length cs))
 
-values-feature : (cs : List Corner) (v : Corner) (f : Feature) → values cs v f .feature ≡ f
+-- what is written for a feature names it
+pub values-feature : (cs : List Corner) (v : Corner) (f : Feature) → values cs v f .feature ≡ f
 values-feature cs v Feature.Within = refl
 values-feature cs v (Feature.Corner i) = refl
 values-feature cs v (Feature.Edge i) = refl
@@ -97,34 +101,50 @@ no-square : (s : ℤ) → s <ℤ pos 0 → s *ℤ s ≡ pos 0 → ⊥
 no-square s = refute (s ∷ []) (var 0 ≺ O ∷ var 0 ⊗ var 0 ≗ O ∷ []) (hyp 0 ⊠ hyp 0 ⊞ eqn 1 (lit (pos 1))) tt
 
 module _ {cs : List Corner} (polygon : Polygon cs) (v : Corner) where
+  -- what is written for a feature whose point is the nearest
+  written-answers : (f : Feature) → Known cs f → Nearest cs (whole v) (values cs v f .point)
+      → Fits cs (whole v) (values cs v f .point) f → Answers cs v (values cs v f)
+  written-answers f known nearest fits =
+      let from = whole-proper v in
+      let at-y = squaredDistance-is (whole v) (values cs v f .point) from (nearest .in-piece .proper) in
+      record {
+        nearest = nearest;
+        unique = λ z also. nearest-unique polygon from also nearest;
+        none-nearer = λ z inside. gap-order at-y (squaredDistance-is (whole v) z from (inside .proper)) .1
+            (none-nearer polygon from nearest inside);
+        fits = rw (values-feature cs v f) fits;
+        distance = distance-same (values-distance polygon v f known) at-y;
+        written = ap (values cs v) (sym (values-feature cs v f));
+      }
+
   pub tested-answers : (f : Feature) → Tested cs v f → Answers cs v (values cs v f)
   tested-answers Feature.Within none =
       let inside = none-holds polygon v (λ i below. none i below .0) (λ i below. none i below .1) in
-      record { nearest = nearest-self inside; fits = (inside, same-refl (whole v)); written = refl }
+      written-answers Feature.Within tt (nearest-self inside) (inside, same-refl (whole v))
   tested-answers (Feature.Corner i) (below, holds) =
       let (nearest, outside) = corner-nearest polygon v i below holds in
-      record { nearest = nearest; fits = (outside, below, same-refl (whole (corner cs i))); written = refl }
+      written-answers (Feature.Corner i) below nearest (outside, below, same-refl (whole (corner cs i)))
   tested-answers (Feature.Edge i) (below, holds) =
       let (nearest, between, outside) = edge-nearest polygon v i below holds in
-      record { nearest = nearest; fits = (outside, below, between); written = refl }
+      written-answers (Feature.Edge i) below nearest (outside, below, between)
+
+  pub nearest-is : Answers cs v (nearest cs v)
+  nearest-is = tested-answers (feature cs v) (feature-tested cs v)
 
   pub answers-iff : (a : NearestPoint) → Answers cs v a ↔ (a ≡ nearest cs v)
-  answers-iff a = (only, λ is. subst (Answers cs v) (sym is) this)
+  answers-iff a = (only, λ is. subst (Answers cs v) (sym is) nearest-is)
     where
-      this : Answers cs v (nearest cs v)
-      this = tested-answers (feature cs v) (feature-tested cs v)
-
       only : Answers cs v a → a ≡ nearest cs v
       only other =
           other .written
           ∙ ap (values cs v)
           (fits-unique polygon (whole v) (a .feature) (nearest cs v .feature) (other .nearest .in-piece .proper)
-          (this .nearest .in-piece .proper)
-          (nearest-unique polygon (whole-proper v) (other .nearest) (this .nearest)) (other .fits) (this .fits)
+          (nearest-is .nearest .in-piece .proper)
+          (nearest-unique polygon (whole-proper v) (other .nearest) (nearest-is .nearest)) (other .fits) (nearest-is .fits)
           ∙ values-feature cs v (feature cs v))
 
-  pub nearest-distance : SquaredDistance (whole v) (nearest cs v .point) (nearest cs v .gap)
-  nearest-distance = squared-distance polygon v (feature cs v) (tested-known cs v (feature cs v) (feature-tested cs v))
+  pub nearest-distance : IsSquaredDistance (whole v) (nearest cs v .point) (nearest cs v .gap)
+  nearest-distance = values-distance polygon v (feature cs v) (tested-known cs v (feature cs v) (feature-tested cs v))
 
   answers-feature : (f : Feature) → Answers cs v (values cs v f) → feature cs v ≡ f
   answers-feature f is =

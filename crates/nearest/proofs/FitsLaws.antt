@@ -1,7 +1,7 @@
 -- A point is one feature only.
 --     fits-unique         two features of one point of the piece are the same
--- A feature is told by the edges on whose lines its point lies: that of edge i lies on the line of edge i alone, and that of corner i
--- on the line of edge i, and on no line but those of the two edges that meet there.
+-- A feature is told by the edges on whose lines its point lies: that of edge i lies on the line of edge i alone,
+-- and that of corner i on the line of edge i, and on no line but those of the two edges that meet there.
 use Prim.Native.Nat.{ℕ, _<_, _≤_}
 use native.Mathlib.Decide.{ℕ-discrete}
 use native.Mathlib.Omega.{arith}
@@ -20,7 +20,7 @@ use Rattle.plane.specs.Point.{Proper, whole, _⇢_, Same}
 use Rattle.plane.specs.Vector.{_⇀_, cross, dot, coordinates}
 use Rattle.plane.proofs.Algebra.{O, vec, crossE, dotE, _⇀E_, components}
 use Rattle.plane.proofs.Points.{pt, wholeE, _⇢E_, numbers, whole-proper, whole-⇢, same-sym}
-use Rattle.outline.specs.Convex.{Polygon}
+use Rattle.outline.specs.code.Polygon.{Polygon}
 use Rattle.outline.specs.Corners.{corner, next, edge}
 use Rattle.outline.proofs.CornersLaws.{next-below, next-other, next-next-other}
 use Rattle.nearest.specs.declared.Feature.{Feature}
@@ -76,8 +76,9 @@ not-ahead : (e : Vector) (c : Corner) {y z : Point} → Proper y → Same y z �
 not-ahead e c {y} {z} proper same here ahead =
     <ℤ-irrefl (rw (dot-turned e (whole c ⇢ z), through (turned e) c proper same here) at ahead)
 
--- Where a line has p and q not on its right, a point y strictly between them is on the line only if both are. With e = q - p, the
--- side numbers of p and q have a sum with the weights e·(q - y) and e·(y - p), both above 0, which is |e|² times that of y.
+-- Where a line has p and q not on its right, a point y strictly between them is on the line only if both are. With
+-- e = q - p, the side numbers of p and q have a sum with the weights e·(q - y) and e·(y - p), both above 0, which
+-- is |e|² times that of y.
 ends-on-line : (f : Vector) (a p q : Corner) (y : Point)
     → cross (p ⇀ q) (whole p ⇢ y) ≡ pos 0 → pos 0 <ℤ dot (p ⇀ q) (whole p ⇢ y) → pos 0 <ℤ dot (p ⇀ q) (y ⇢ whole q)
     → pos 0 ≤ℤ cross f (whole a ⇢ whole p) → pos 0 ≤ℤ cross f (whole a ⇢ whole q) → cross f (whole a ⇢ y) ≡ pos 0

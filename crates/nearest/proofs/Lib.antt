@@ -10,3 +10,4 @@ pub mod AnswerLaws
 pub mod SearchLaws
 pub mod Scaling
 pub mod CallLaws
+pub mod Rotation

@@ -1,6 +1,7 @@
 -- The local tests tell the nearest point, and outside the piece one of them holds.
 --     corner-nearest    a corner whose test holds is the nearest point, and v is outside the piece
---     edge-nearest      an edge whose test holds has the nearest point strictly between its ends, and v is outside the piece
+--     edge-nearest      an edge whose test holds has the nearest point strictly between its ends, and v is outside
+--                       the piece
 --     none-holds        where no test holds, v is in the piece
 --     corner-visible    a corner whose test holds is an end of an edge that v is strictly right of
 use Prim.Native.Nat.{ℕ, _<_}
@@ -17,18 +18,19 @@ use Rattle.integers.proofs.Descent.{no-descent}
 use Rattle.plane.specs.declared.Corner.{Corner}
 use Rattle.plane.specs.declared.Point.{Point}
 use Rattle.plane.specs.Point.{whole}
-use Rattle.plane.specs.Vector.{_⇀_, dot, side, isRight}
+use Rattle.plane.specs.Vector.{_⇀_, dot, side}
+use Rattle.plane.specs.code.Tests.{isRight}
 use Rattle.plane.proofs.Algebra.{dot-self, dot-back, side-end, apart-0}
 use Rattle.plane.proofs.Cone.{cone}
 use Rattle.plane.proofs.Points.{whole-⇢}
-use Rattle.outline.specs.Convex.{Polygon}
+use Rattle.outline.specs.code.Polygon.{Polygon}
 use Rattle.outline.specs.Corners.{corner, next, previous}
 use Rattle.outline.proofs.CornersLaws.{next-below, previous-below, next-previous, previous-next}
 use Rattle.nearest.specs.declared.Feature.the-variants as Feature
 use Rattle.nearest.specs.Piece.{InPiece, Outside}
 use Rattle.nearest.specs.Feature.{values}
 use Rattle.nearest.specs.Nearest.{Nearest, Between}
-use Rattle.nearest.specs.Local.{squaredLength, along, isCorner, isEdge}
+use Rattle.nearest.specs.code.Local.{squaredLength, along, isCorner, isEdge}
 use Rattle.outline.proofs.EdgeLaws.{length-above-0}
 use Rattle.nearest.proofs.PieceLaws.{whole-in-piece}
 use Rattle.nearest.proofs.Support.{not-right, corner-in-piece, turns-left, corner-cone}
@@ -84,7 +86,8 @@ module _ {cs : List Corner} (polygon : Polygon cs) (v : Corner) where
         λ inside. clashℤ visible (whole-in-piece cs v .0 inside i below),
       )
 
-  -- Were an edge visible, the walk forth from its end or the walk back from its start would come nearer and nearer to v.
+  -- Were an edge visible, the walk forth from its end or the walk back from its start would come nearer and nearer
+  -- to v.
   pub none-holds : ((i : ℕ) → i < length cs → isCorner cs v i ≡ false) → ((i : ℕ) → i < length cs → isEdge cs v i ≡ false)
       → InPiece cs (whole v)
   none-holds corners edges = whole-in-piece cs v .1 (λ i below. ≮ℤ-≤ℤ (not-visible i below))
@@ -115,7 +118,8 @@ module _ {cs : List Corner} (polygon : Polygon cs) (v : Corner) where
                 (next-below n i (omega arith), rw (previous-next n i below) (record { visible = visible; behind = end }))
           ]
 
-  -- Were v right of neither edge at the corner, it would be in the cone there, and the test says that only the corner is.
+  -- Were v right of neither edge at the corner, it would be in the cone there, and the test says that only the
+  -- corner is.
   pub corner-visible : (i : ℕ) → i < length cs → isCorner cs v i ≡ true → (let n = length cs in
       let before = corner cs (previous n i) in let c = corner cs i in let after = corner cs (next n i) in
       (isRight c (c ⇀ after) v ≡ true) ⊎ (isRight before (before ⇀ c) v ≡ true))

@@ -1,5 +1,6 @@
 -- The nearest point of a piece, from its definition alone. v is any point, of whole coordinates or not.
---     nearest-bound                 the inequality of the definition holds at every point of the piece, not only at the corners
+--     nearest-bound                 the inequality of the definition holds at every point of the piece, not only at
+--                                   the corners
 --     none-nearer, others-farther   no point of the piece is nearer to v, and every other point of it is farther
 --     nearest-self                  a point of the piece is its own nearest point
 --     nearest-unique                two nearest points are the same point
@@ -9,10 +10,11 @@ use lib.Signed.{_≤ℤ_, ≤ℤ-refl}
 use Rattle.integers.proofs.Order.{≰ℤ-<ℤ}
 use Rattle.plane.specs.declared.Corner.{Corner}
 use Rattle.plane.specs.declared.Point.{Point}
-use Rattle.plane.specs.Point.{Proper, whole, _⇢_, Same, NotFarther, Nearer}
+use Rattle.plane.specs.Point.{Proper, whole, _⇢_, Same}
 use Rattle.plane.specs.Vector.{dot}
-use Rattle.plane.proofs.Points.{whole-proper, dot-self-0, dot-trans, not-apart, obtuse-not-farther, obtuse-nearer, obtuse-twice}
-use Rattle.outline.specs.Convex.{Polygon}
+use Rattle.plane.proofs.Points.{NotFarther, Nearer, whole-proper, dot-self-0, dot-trans, not-apart}
+use Rattle.plane.proofs.Points.{obtuse-not-farther, obtuse-nearer, obtuse-twice}
+use Rattle.outline.specs.code.Polygon.{Polygon}
 use Rattle.outline.specs.Corners.{corner}
 use Rattle.nearest.specs.Piece.{InPiece}
 use Rattle.nearest.specs.Nearest.{Nearest}

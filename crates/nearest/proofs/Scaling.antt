@@ -1,19 +1,22 @@
--- Points at V/D. Times D, the outline is a larger one and V has whole coordinates, so every law about such points speaks of V/D too: those
--- about the local tests, a foot on an end and the exhaustive search as they stand, for the larger list.
+-- Points at V/D. Times D, the outline is a larger one and V has whole coordinates, so every law about such points
+-- speaks of V/D too: those about the local tests, a foot on an end and the exhaustive search as they stand, for the
+-- larger list.
 --     scaled-polygon      the larger list is a polygon
 --     scaled-piece        a point is in its piece exactly where the shrunk point is in the piece
 --     scaled-nearest      its nearest point to V, shrunk, is the nearest point to V/D
 --     scaled-fits         and the feature is the same
 --     scaled-distance     the gap, over k², is the squared distance
---     nearestAt-is, nearestAt-fits, nearestAt-distance    so every point V/D has a nearest point, feature and gap: those of V, over D
-use Prim.Native.Nat.{ℕ, _*_, _<_}
+--     nearestAt-is, nearestAt-fits, nearestAt-distance    so every point V/D has a nearest point, feature and gap:
+--                         those of V, over D
+--     one-nearest         and only one nearest point
+use Prim.Native.Nat.{ℕ, _*_}
 use native.Mathlib.Nat.{one-mul}
 use mathlib.Core.Path.{_≡_, refl, sym, ap, _∙_}
 use mathlib.Core.Logic.{_↔_}
 use mathlib.Core.List.{List, [], _∷_, _++_}
 use lib.IntN.{ℤ, pos, _-ℤ_, _*ℤ_, *ℤ-zero, *ℤ-comm}
 use lib.ListN.{length, getD, length-map, List·getD-map}
-use lib.Signed.{_≤ℤ_, _<ℤ_}
+use lib.Signed.{_<ℤ_}
 use Rattle.integers.proofs.Polynomial.{Expr, var, lit, _⊖_, _⊗_, solve}
 use Rattle.integers.proofs.Order.{*ℤ-pos, *ℤ-nonneg, <ℤ-≤ℤ}
 use Rattle.integers.proofs.Signs.{factor-pos, factor-nonneg, factor-zero, product-nonpos}
@@ -26,16 +29,19 @@ use Rattle.plane.specs.Point.{Proper, whole, _⇢_, Same}
 use Rattle.plane.specs.Vector.{_⇀_, cross, dot, side, coordinates}
 use Rattle.plane.proofs.Algebra.{VecE, vec, crossE, dotE, _⇀E_, sideE}
 use Rattle.plane.proofs.Points.{PointE, pt, wholeE, _⇢E_, numbers, whole-proper, same-trans}
-use Rattle.outline.specs.Convex.{Polygon, StrictlyConvex}
+use Rattle.outline.specs.code.Polygon.{Polygon}
+use Rattle.outline.specs.Convex.{StrictlyConvex}
 use Rattle.outline.specs.Corners.{corner, next, origin}
 use Rattle.nearest.specs.Piece.{sideOf, InPiece}
 use Rattle.nearest.specs.declared.Feature.{Feature}
 use Rattle.nearest.specs.declared.Feature.the-variants as Feature
 use Rattle.nearest.specs.declared.NearestPoint.{NearestPoint}
-use Rattle.nearest.specs.Local.{nearest}
-use Rattle.nearest.specs.Scaling.{scaled, enlarged, shrunk, over, numerator, nearestAt}
-use Rattle.nearest.specs.Nearest.{Nearest, Fits, SquaredDistance, Answers}
-use Rattle.nearest.proofs.AnswerLaws.{answers-iff, nearest-distance}
+use Rattle.nearest.specs.code.Local.{nearest}
+use Rattle.nearest.specs.code.Scaling.{scaled, enlarged, shrunk, over, numerator, nearestAt}
+use Rattle.nearest.specs.Nearest.{Nearest, Fits, Answers}
+use Rattle.nearest.proofs.DistanceLaws.{IsSquaredDistance}
+use Rattle.nearest.proofs.NearestLaws.{nearest-unique}
+use Rattle.nearest.proofs.AnswerLaws.{nearest-is, nearest-distance}
 
 -- as expressions: the variable after the points' numbers is k
 abbrev scaledE : Expr → VecE → VecE
@@ -112,8 +118,8 @@ module _ (k : ℕ) where
       (kE ⊗ dotE (yE ⇢E wholeE vE) (yE ⇢E wholeE (scaledE kE cE))) tt
 
   -- so |v - y|² over k² is the squared distance of v/k and y/k
-  pub scaled-distance : (v : Corner) (y : Point) (g : Fraction) → pos 0 <ℤ pos k → SquaredDistance (whole v) y g
-      → SquaredDistance (over k v) (shrunk k y) (record { upper = g .upper; lower = g .lower * (k * k) })
+  pub scaled-distance : (v : Corner) (y : Point) (g : Fraction) → pos 0 <ℤ pos k → IsSquaredDistance (whole v) y g
+      → IsSquaredDistance (over k v) (shrunk k y) (record { upper = g .upper; lower = g .lower * (k * k) })
   unfolding dot _⇢_
   scaled-distance v y g above is =
       let kE = var 7 in let vE = vec 0 in let yE = pt 2 in let upper = var 5 in let lower = var 6 in
@@ -207,13 +213,17 @@ module _ {cs : List Corner} (polygon : Polygon cs) (v : Point) (proper : Proper 
   there = nearest (enlarged (v .lower) cs) (numerator v)
 
   answers : Answers (enlarged (v .lower) cs) (numerator v) there
-  answers = answers-iff larger (numerator v) there .1 refl
+  answers = nearest-is larger (numerator v)
 
   pub nearestAt-is : Nearest cs v (nearestAt cs v .point)
   nearestAt-is = scaled-nearest (v .lower) cs proper (numerator v) (there .point) (answers .nearest)
 
+  -- rule 3.2: there is exactly one nearest point
+  pub one-nearest : (y : Point) × Nearest cs v y × ((z : Point) → Nearest cs v z → Same y z)
+  one-nearest = (nearestAt cs v .point, nearestAt-is, λ z also. nearest-unique polygon proper nearestAt-is also)
+
   pub nearestAt-fits : Fits cs v (nearestAt cs v .point) (nearestAt cs v .feature)
   nearestAt-fits = scaled-fits (v .lower) cs proper (numerator v) (there .point) (there .feature) (answers .fits)
 
-  pub nearestAt-distance : SquaredDistance v (nearestAt cs v .point) (nearestAt cs v .gap)
+  pub nearestAt-distance : IsSquaredDistance v (nearestAt cs v .point) (nearestAt cs v .gap)
   nearestAt-distance = scaled-distance (v .lower) (numerator v) (there .point) (there .gap) proper (nearest-distance larger (numerator v))

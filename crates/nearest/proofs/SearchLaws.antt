@@ -1,9 +1,9 @@
 -- The exhaustive search finds the nearest point, in whatever order it tries.
---     leastOf-strict        of a list in which one member has a gap less than every other's, `leastOf` gives that member
---     parts                 the members of a list that is joined from parts are those of the parts
---     Tried                 the features that are tried: every corner, and every edge whose test holds
---     tried-is, is-tried    what is tried is the answers with these features
---     Candidate             an answer whose point is in the piece, is what its feature says, and lies at the stated distance
+--     least-strict          of a list in which one member has a gap less than every other's, `least` gives that member
+--     TriedFeature          the features that are tried: every corner, and every edge whose test holds
+--     tried-is, tried-has   what is tried is the answers with these features
+--     Candidate             an answer whose point is in the piece, is what its feature says, and lies at the stated
+--                           distance
 --     candidate             whatever is tried is one
 --     no-better             every candidate other than the nearest has a greater gap
 --     least-any-order       the least of any list of what is tried, in any order and with repeats, is the nearest
@@ -12,31 +12,33 @@ use Prim.Native.Nat.{ℕ, zero, suc, _<_, _*_}
 use native.Mathlib.Nat.{eq-or-lt-of-le, le-of-lt, le-of-suc-le-suc}
 use native.Mathlib.Omega.{arith}
 use mathlib.Core.Path.{_≡_, refl, sym, ap}
-use mathlib.Core.Logic.{_↔_, Iff·rfl, _⊎_, inl, inr, ⊎-elim}
+use mathlib.Core.Logic.{_↔_, _⊎_, inl, inr, ⊎-elim}
 use mathlib.Core.Bool.{Bool, true, false, cond}
-use mathlib.Core.List.{List, [], _∷_, _++_, List·Memᴰ, List·Memᴰ·head, List·Memᴰ·tail, List·Memᴰ·cases-cons, List·Memᴰ·not-nil}
+use mathlib.Core.List.{List, [], _∷_, _++_, List·Memᴰ, List·Memᴰ·head, List·Memᴰ·tail, List·Memᴰ·cases-cons}
+use mathlib.Core.List.{List·Memᴰ·not-nil}
 use mathlib.Core.List.{List·Memᴰ·eq-of-singleton, List·Memᴰ·append-cases, Memᴰ·append-left, Memᴰ·append-right}
 use borrow.Author.Tests.{lt-ltb, le-ltb}
 use lib.ListN.{length}
+use Rattle.lists.proofs.FoldLaws.{joined-member}
 use Rattle.plane.specs.declared.Corner.{Corner}
 use Rattle.plane.specs.Point.{whole}
 use Rattle.plane.proofs.Points.{whole-proper, same-refl, same?}
-use Rattle.outline.specs.Convex.{Polygon}
+use Rattle.outline.specs.code.Polygon.{Polygon}
 use Rattle.outline.specs.Corners.{corner}
 use Rattle.nearest.specs.declared.Feature.{Feature}
 use Rattle.nearest.specs.declared.Feature.the-variants as Feature
 use Rattle.nearest.specs.declared.NearestPoint.{NearestPoint}
 use Rattle.nearest.specs.Piece.{InPiece, Outside, isOutside}
-use Rattle.nearest.specs.Feature.{values}
-use Rattle.nearest.specs.Nearest.{Fits, SquaredDistance}
-use Rattle.nearest.specs.Local.{isEdge, Tested, feature, nearest}
+use Rattle.nearest.specs.Feature.{values, withinValues}
+use Rattle.nearest.specs.Nearest.{Fits}
+use Rattle.nearest.specs.code.Local.{isEdge, Tested, feature, nearest}
 use Rattle.integers.specs.Fraction.{isLess}
-use Rattle.nearest.specs.Search.{within, triedCorners, triedEdges, tried, least, leastOf, search}
+use Rattle.nearest.specs.Search.{triedCorners, triedEdges, tried, least, search}
 use Rattle.nearest.proofs.Support.{corner-in-piece}
 use Rattle.nearest.proofs.NearestLaws.{others-farther}
 use Rattle.nearest.proofs.LocalLaws.{edge-nearest}
 use Rattle.nearest.proofs.FitsLaws.{fits-unique}
-use Rattle.nearest.proofs.DistanceLaws.{squared-distance, gap-order-strict}
+use Rattle.nearest.proofs.DistanceLaws.{IsSquaredDistance, values-distance, gap-order-strict}
 use Rattle.nearest.proofs.AnswerLaws.{feature-tested, tested-answers, within-iff}
 use Rattle.nearest.proofs.PieceLaws.{outside-test, inside-test}
 
@@ -80,86 +82,58 @@ module _ (m : NearestPoint) where
       stays : (m ≡ a) ⊎ (m ≡ b) → (m ≡ cond (isLess (b .gap) (a .gap)) b a) ⊎ List·Memᴰ m bs
       stays one = inl (sym (lesser-strict a b known second one))
 
-  -- A list's member m with a gap less than every other's is what `leastOf` gives.
-  leastOf-strict : (none : NearestPoint) (bs : List NearestPoint) → AllNoBetter bs → List·Memᴰ m bs → leastOf none bs ≡ m
-  leastOf-strict none [] all there = absurd (List·Memᴰ·not-nil there)
-  leastOf-strict none (a ∷ bs) all there =
-      least-strict a bs (all a (List·Memᴰ·head refl)) (λ b among. all b (List·Memᴰ·tail among)) (List·Memᴰ·cases-cons there)
-
--- a list that is joined from the parts 0, 1, ..
-module _ {A : Type 0} (joined part : ℕ → List A) (none : joined 0 ≡ []) (more : (n : ℕ) → joined (suc n) ≡ joined n ++ part n) where
-  parts : (n : ℕ) (a : A) → List·Memᴰ a (joined n) ↔ ((i : ℕ) × (i < n) × List·Memᴰ a (part i))
-  parts zero a = (λ there. absurd (List·Memᴰ·not-nil (rw none at there)), λ (i, below, _). absurd (omega arith))
-  parts (suc n) a = (
-    λ there. ⊎-elim (λ before. let (i, below, here) = parts n a .0 before in (i, omega arith, here)) (λ here. (n, omega arith, here))
-        (List·Memᴰ·append-cases (joined n) (rw (more n) at there)),
-    λ (i, below, here). rw (more n) (⊎-elim (λ is. Memᴰ·append-right (joined n) (rw is at here))
-        (λ lower. Memᴰ·append-left (part n) (parts n a .1 (i, lower, here))) (eq-or-lt-of-le (le-of-suc-le-suc below))),
-  )
-
 -- a list that has one member where a test holds, and none where it fails
 from-test : (t : Bool) {a b : NearestPoint} → List·Memᴰ a (cond t (b ∷ []) []) → (t ≡ true) × (a ≡ b)
 from-test true there = (refl, List·Memᴰ·eq-of-singleton there)
 from-test false there = absurd (List·Memᴰ·not-nil there)
 
-abbrev Tried : List Corner → Corner → Feature → Type 0
-Tried cs v Feature.Within = ⊥
-Tried cs v (Feature.Corner i) = i < length cs
-Tried cs v (Feature.Edge i) = (i < length cs) × (isEdge cs v i ≡ true)
+-- the features that are tried: every corner, and every edge whose test holds
+abbrev TriedFeature : List Corner → Corner → Feature → Type 0
+TriedFeature cs v Feature.Within = ⊥
+TriedFeature cs v (Feature.Corner i) = i < length cs
+TriedFeature cs v (Feature.Edge i) = (i < length cs) × (isEdge cs v i ≡ true)
 
 module _ (cs : List Corner) (v : Corner) where
-  -- what is tried at corner i, and at edge i
-  cornerAt : ℕ → List NearestPoint
-  cornerAt i = values cs v (Feature.Corner i) ∷ []
-
-  edgeAt : ℕ → List NearestPoint
-  edgeAt i = cond (isEdge cs v i) (values cs v (Feature.Edge i) ∷ []) []
-
-  corners-tried : (a : NearestPoint) → List·Memᴰ a (triedCorners cs v (length cs)) ↔ ((i : ℕ) × (i < length cs) × List·Memᴰ a (cornerAt i))
-  unfolding triedCorners cornerAt
-  corners-tried a = parts (triedCorners cs v) cornerAt refl (λ n. refl) (length cs) a
-
-  edges-tried : (a : NearestPoint) → List·Memᴰ a (triedEdges cs v (length cs)) ↔ ((i : ℕ) × (i < length cs) × List·Memᴰ a (edgeAt i))
-  unfolding triedEdges edgeAt
-  edges-tried a = parts (triedEdges cs v) edgeAt refl (λ n. refl) (length cs) a
-
-  tried-is : (a : NearestPoint) → List·Memᴰ a (tried cs v) → (g : Feature) × Tried cs v g × (a ≡ values cs v g)
-  unfolding tried cornerAt edgeAt
+  -- a member of `tried` is one of its two parts (`isTried` unfolds to `isEdge`)
+  tried-is : (a : NearestPoint) → List·Memᴰ a (tried cs v) → (g : Feature) × TriedFeature cs v g × (a ≡ values cs v g)
+  unfolding tried
   tried-is a there =
       ⊎-elim
-      (λ among. let (i, below, here) = corners-tried a .0 among in
+      (λ among. let (i, below, here) = joined-member _ (length cs) a .0 among in
       (Feature.Corner i, below, List·Memᴰ·eq-of-singleton here))
-      (λ among. let (i, below, here) = edges-tried a .0 among in
+      (λ among. let (i, below, here) = joined-member _ (length cs) a .0 among in
       let (holds, is) = from-test (isEdge cs v i) here in (Feature.Edge i, (below, holds), is))
-      (List·Memᴰ·append-cases (triedCorners cs v (length cs)) there)
+      (List·Memᴰ·append-cases (triedCorners cs v) there)
 
-  is-tried : (g : Feature) → Tried cs v g → List·Memᴰ (values cs v g) (tried cs v)
-  unfolding tried cornerAt edgeAt
-  is-tried Feature.Within none = absurd none
-  is-tried (Feature.Corner i) below =
-      Memᴰ·append-left (triedEdges cs v (length cs)) (corners-tried _ .1 (i, below, List·Memᴰ·head refl))
-  is-tried (Feature.Edge i) (below, holds) =
-      Memᴰ·append-right (triedCorners cs v (length cs)) (edges-tried _ .1 (i, below, rw holds (List·Memᴰ·head refl)))
+  tried-has : (g : Feature) → TriedFeature cs v g → List·Memᴰ (values cs v g) (tried cs v)
+  unfolding tried
+  tried-has Feature.Within none = absurd none
+  tried-has (Feature.Corner i) below =
+      Memᴰ·append-left (triedEdges cs v) (joined-member _ (length cs) _ .1 (i, below, List·Memᴰ·head refl))
+  tried-has (Feature.Edge i) (below, holds) =
+      Memᴰ·append-right (triedCorners cs v)
+      (joined-member _ (length cs) _ .1 (i, below, rw holds (List·Memᴰ·head refl)))
 
+-- an answer whose point is in the piece, is what its feature says, and lies at the stated distance
 record Candidate (cs : List Corner) (v : Corner) (g : Feature) : Type 0 where
   in-piece : InPiece cs (values cs v g .point)
   fits : Fits cs (whole v) (values cs v g .point) g
-  measured : SquaredDistance (whole v) (values cs v g .point) (values cs v g .gap)
+  measured : IsSquaredDistance (whole v) (values cs v g .point) (values cs v g .gap)
 
 module _ {cs : List Corner} (polygon : Polygon cs) (v : Corner) where
-  candidate : Outside cs (whole v) → (g : Feature) → Tried cs v g → Candidate cs v g
+  candidate : Outside cs (whole v) → (g : Feature) → TriedFeature cs v g → Candidate cs v g
   candidate outside Feature.Within none = absurd none
   candidate outside (Feature.Corner i) below = record {
     in-piece = corner-in-piece polygon i below;
     fits = (outside, below, same-refl (whole (corner cs i)));
-    measured = squared-distance polygon v (Feature.Corner i) below;
+    measured = values-distance polygon v (Feature.Corner i) below;
   }
   candidate outside (Feature.Edge i) (below, holds) =
       let (nearest, between, _) = edge-nearest polygon v i below holds in
       record {
         in-piece = nearest .in-piece;
         fits = (outside, below, between);
-        measured = squared-distance polygon v (Feature.Edge i) below;
+        measured = values-distance polygon v (Feature.Edge i) below;
       }
 
   -- One point is one feature only, so another candidate is another point, and that is strictly farther.
@@ -173,19 +147,18 @@ module _ {cs : List Corner} (polygon : Polygon cs) (v : Corner) where
       ]
 
   -- Outside the piece the feature found is one that is tried.
-  found-tried : Outside cs (whole v) → (f : Feature) → Tested cs v f → Tried cs v f
+  found-tried : Outside cs (whole v) → (f : Feature) → Tested cs v f → TriedFeature cs v f
   found-tried outside Feature.Within holds = absurd (outside (tested-answers polygon v Feature.Within holds .fits .0))
   found-tried outside (Feature.Corner i) holds = holds .0
   found-tried outside (Feature.Edge i) holds = holds
 
-  -- any list of what is tried, in any order and with repeats
-  pub least-any-order : Outside cs (whole v) → (none : NearestPoint) (order : List NearestPoint)
-      → ((a : NearestPoint) → List·Memᴰ a order ↔ List·Memᴰ a (tried cs v)) → leastOf none order ≡ nearest cs v
-  least-any-order outside none order same =
-      leastOf-strict (nearest cs v) none order
-      (λ a there. let (g, tried, is) = tried-is cs v a (same a .0 there) in
-      rw is (no-better (feature cs v) g holds found (candidate outside g tried)))
-      (same (nearest cs v) .1 (is-tried cs v (feature cs v) (found-tried outside (feature cs v) holds)))
+  -- any list of what is tried, in any order and with repeats, by its first member and the others
+  pub least-any-order : Outside cs (whole v) → (a : NearestPoint) (more : List NearestPoint)
+      → ((b : NearestPoint) → List·Memᴰ b (a ∷ more) ↔ List·Memᴰ b (tried cs v)) → least a more ≡ nearest cs v
+  least-any-order outside a more same =
+      least-strict (nearest cs v) a more (known a (List·Memᴰ·head refl)) (λ b there. known b (List·Memᴰ·tail there))
+      (List·Memᴰ·cases-cons
+      (same (nearest cs v) .1 (tried-has cs v (feature cs v) (found-tried outside (feature cs v) holds))))
     where
       holds : Tested cs v (feature cs v)
       holds = feature-tested cs v
@@ -193,9 +166,25 @@ module _ {cs : List Corner} (polygon : Polygon cs) (v : Corner) where
       found : Candidate cs v (feature cs v)
       found = candidate outside (feature cs v) (found-tried outside (feature cs v) holds)
 
+      known : (b : NearestPoint) → List·Memᴰ b (a ∷ more) → NoBetter (nearest cs v) b
+      known b there =
+          let (g, tried, is) = tried-is cs v b (same b .0 there) in
+          rw is (no-better (feature cs v) g holds found (candidate outside g tried))
+
   pub search-nearest : search cs v ≡ nearest cs v
   search-nearest = by-test (isOutside cs v) refl
     where
-      by-test : (t : Bool) → isOutside cs v ≡ t → cond t (leastOf (within v) (tried cs v)) (within v) ≡ nearest cs v
-      by-test true holds = least-any-order (outside-test cs v .0 holds) (within v) (tried cs v) (λ a. Iff·rfl)
+      first : NearestPoint
+      first = values cs v (Feature.Corner 0)
+
+      -- corner 0 is one of those that are tried
+      with-first : (b : NearestPoint) → List·Memᴰ b (first ∷ tried cs v) ↔ List·Memᴰ b (tried cs v)
+      with-first b = (
+        λ there. ⊎-elim (λ is. rw is (tried-has cs v (Feature.Corner 0) (omega (arith, polygon .at-least))))
+            (λ among. among) (List·Memᴰ·cases-cons there),
+        List·Memᴰ·tail,
+      )
+
+      by-test : (t : Bool) → isOutside cs v ≡ t → cond t (least first (tried cs v)) (withinValues v) ≡ nearest cs v
+      by-test true holds = least-any-order (outside-test cs v .0 holds) first (tried cs v) with-first
       by-test false fails = ap (values cs v) (sym (within-iff polygon v .1 (inside-test cs v .0 fails)))

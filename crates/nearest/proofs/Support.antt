@@ -4,7 +4,8 @@
 --     turns-left         the edge into a corner and the edge out of it turn left
 --     turns-on           so do an edge and the next
 --     corner-cone        a linear bound at the two neighbours of a corner holds in the piece
---     support            for every direction some corner is extreme: no point of the piece lies farther in that direction
+--     support            for every direction some corner is extreme: no point of the piece lies farther in that
+--                        direction
 use Prim.Native.Nat.{ℕ, _<_}
 use mathlib.Core.Logic.{inl, inr, ⊎-elim}
 use mathlib.Core.List.{List}
@@ -23,9 +24,10 @@ use Rattle.plane.specs.Vector.{_⇀_, cross, dot, side}
 use Rattle.plane.proofs.Algebra.{side-end, side-start, side-stop, dot-back, dot-less}
 use Rattle.plane.proofs.Cone.{cone}
 use Rattle.plane.proofs.Points.{whole-proper, whole-⇢, line-end}
-use Rattle.outline.specs.Convex.{Polygon}
+use Rattle.outline.specs.code.Polygon.{Polygon}
 use Rattle.outline.specs.Corners.{corner, next, previous, origin, edge}
-use Rattle.outline.proofs.CornersLaws.{next-below, next-other, previous-below, next-previous, previous-next, next-not-previous}
+use Rattle.outline.proofs.CornersLaws.{next-below, next-other, previous-below, next-previous, previous-next}
+use Rattle.outline.proofs.CornersLaws.{next-not-previous}
 use Rattle.nearest.specs.Piece.{InPiece}
 
 module _ {cs : List Corner} (polygon : Polygon cs) where

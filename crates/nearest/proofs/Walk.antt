@@ -1,10 +1,13 @@
--- The tests of a corner and of an edge, and the walk round an outline that they end. An edge is visible where v is strictly right of it.
+-- The tests of a corner and of an edge, and the walk round an outline that they end. An edge is visible where v is
+-- strictly right of it.
 --     Behind                   seen from c, v is not on the side of b
 --     corner-test, edge-test   what the tests say
---     PastEnd, PastStart       an edge is visible and the foot of v on its line is not before its end; not after its start
+--     PastEnd, PastStart       an edge is visible and the foot of v on its line is not before its end; not after
+--                              its start
 --     visible-past             one of these holds of a visible edge whose test fails
---     forth                    at a corner whose test fails, past the end of the edge into it: if the test of the edge out of it fails
---                              too, v is past the end of that edge, and nearer to that end than to the corner
+--     forth                    at a corner whose test fails, past the end of the edge into it: if the test of the
+--                              edge out of it fails too, v is past the end of that edge, and nearer to that end
+--                              than to the corner
 --     back                     the mirror, from the start of the edge out of a corner to that of the edge into it
 --     square-at-start, square-at-end    where the foot of v on an edge is an end, the test of that corner holds
 use Prim.Native.Nat.{_<_}
@@ -24,8 +27,8 @@ use Rattle.plane.specs.Vector.{_⇀_, cross, dot, side, coordinates}
 use Rattle.plane.proofs.Algebra.{O, vec, crossE, dotE, sideE, _⇀E_, side-end, side-start, side-stop, dot-back}
 use Rattle.plane.proofs.Cone.{turn-next, turn-previous}
 use Rattle.plane.proofs.Tests.{same-true, isRight-true}
-use Rattle.nearest.specs.Local.{squaredLength, along}
-use Rattle.nearest.specs.Local.{cornerIsNearest, edgeIsNearest}
+use Rattle.nearest.specs.code.Local.{squaredLength, along}
+use Rattle.nearest.specs.code.Local.{cornerIsNearest, edgeIsNearest}
 
 abbrev pub Behind : Corner → Corner → Corner → Type 0
 Behind v c b = dot (c ⇀ v) (c ⇀ b) ≤ℤ pos 0
@@ -105,7 +108,8 @@ square-end v p q r =
     (O ≺ crossE e f ∷ sideE p' q' v' ≺ O ∷ dotE (p' ⇀E v') e ≗ dotE e e ∷ []) (dotE (q' ⇀E v') f ≼ O)
     (hyp 0 ⊠ sq (e .x) ⊞ hyp 0 ⊠ sq (e .y) ⊞ hyp 1 ⊠ hyp 2 ⊞ eqn 3 (dotE e f)) tt
 
--- The foot of v on the edge from q to r is q, so v stands square to the edge there; and the mirror, on the edge from p to q.
+-- The foot of v on the edge from q to r is q, so v stands square to the edge there; and the mirror, on the edge
+-- from p to q.
 module _ (v p q r : Corner) (left : pos 0 <ℤ cross (p ⇀ q) (q ⇀ r)) where
   pub square-at-start : side q r v <ℤ pos 0 → along q r v ≡ pos 0 → (q ≢ v) × Behind v q p × Behind v q r
   square-at-start visible at-start = (

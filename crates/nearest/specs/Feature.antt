@@ -1,7 +1,5 @@
--- Document 01: the gap and the nearest point for each kind of feature, from a point v with whole coordinates. Nothing is reduced.
---     withinValues, cornerValues, edgeValues    what is answered for each kind, from the corners that it speaks of
---     edgeGap, footOn                           the two parts of the last, from the edge's start and differences
---     values                                    the same for a feature of an outline
+-- Rule 3.4: the gap and the nearest point for each kind of feature, from a point v with whole coordinates. Nothing
+-- is reduced. The size of a number (`natAbs`) is taken only where it is not below 0.
 use Prim.Native.Nat.{ℕ}
 use mathlib.Core.List.{List}
 use lib.IntN.{natAbs, _+ℤ_, _*ℤ_}
@@ -29,12 +27,13 @@ cornerValues v i c = record {
   point = whole c;
 }
 
--- The gap and the foot of a point on an edge. The edge starts at `start` and has the differences `run`; `to` are those from its start
--- to the point, so cross run to is the side number: its square over the edge's squared length
+-- the gap to an edge: the square of the side number over the edge's squared length. The edge has the differences
+-- `run`; `to` are those from its start to v, so that the side number is cross run to
 abbrev pub edgeGap : Vector → Vector → Fraction
 edgeGap run to = record { upper = natAbs (cross run to *ℤ cross run to); lower = natAbs (dot run run) }
 
--- (L × p + t × (q - p)) / L, with L the squared length and t the dot of v - p and q - p
+-- the foot of v on an edge that starts at p = `start`, to q: (L × p + t × (q - p)) / L, with L the squared length
+-- and t the dot of v - p and q - p
 abbrev pub footOn : Corner → Vector → Vector → Point
 footOn start run to = record {
   x = dot run run *ℤ start .x +ℤ dot to run *ℤ run .x;
@@ -50,6 +49,7 @@ edgeValues v i p q = record {
   point = footOn p (p ⇀ q) (p ⇀ v);
 }
 
+-- what is answered for a feature of an outline
 abbrev pub values : List Corner → Corner → Feature → NearestPoint
 values cs v Feature.Within = withinValues v
 values cs v (Feature.Corner i) = cornerValues v i (corner cs i)

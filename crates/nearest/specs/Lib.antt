@@ -1,8 +1,7 @@
--- Document 01, "Gap of one corner", and the refusals of the nearest point.
+-- The nearest point: section 3 of docs/SPECIFICATION.md, and the call of rule 7.3.
 pub mod Piece
 pub mod Feature
 pub mod Nearest
-pub mod Local
-pub mod Scaling
 pub mod Search
 pub mod Call
+pub mod code

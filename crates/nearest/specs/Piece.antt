@@ -1,7 +1,4 @@
--- Document 01: the piece, the region that is strictly right of no edge, its border included.
---     sideOf              the side number of a point against edge i
---     InPiece, Outside    a point is in the piece, or it is not
---     isOutside           the test of a point with whole coordinates
+-- Rule 1.6: the piece, the region that is strictly right of no edge, its border included.
 use Prim.Native.Nat.{ℕ, _<_}
 use mathlib.Core.Bool.{Bool, not}
 use mathlib.Core.List.{List}
@@ -15,17 +12,19 @@ use Rattle.plane.specs.Point.{Proper, whole, _⇢_}
 use Rattle.plane.specs.Vector.{cross, side}
 use Rattle.outline.specs.Corners.{corner, next, edge}
 
--- times the point's lower number, which is above 0 and so keeps the sign
+-- the side number of a point against edge i, times the point's lower number, which is above 0 and so keeps the sign
 abbrev pub sideOf : List Corner → ℕ → Point → ℤ
 sideOf cs i z = cross (edge cs i) (whole (corner cs i) ⇢ z)
 
+-- a point is in the piece
 pub record InPiece (cs : List Corner) (z : Point) : Type 0 where
   pub proper : Proper z
   pub right-of-none : (i : ℕ) → i < length cs → pos 0 ≤ℤ sideOf cs i z
 
+-- a point is not in the piece
 abbrev pub Outside : List Corner → Point → Type 0
 Outside cs z = ¬ InPiece cs z
 
--- it does not hold of every edge that v is on its line or left of it
+-- the test that v is outside: it does not hold of every edge that v is on its line or left of it
 abbrev pub isOutside : List Corner → Corner → Bool
 isOutside cs v = not (all (λ i. leZ (pos 0) (side (corner cs i) (corner cs (next (length cs) i)) v)) (length cs))

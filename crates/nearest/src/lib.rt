@@ -6,7 +6,7 @@ use plane::Point;
 // The number of the refusal of a point.
 pub const POINT_OUT_OF_RANGE: u32 = 7;
 
-// Document 01: the nearest feature. `Within`: the point is in the piece. `Edge(i)`: strictly between the ends of edge i.
+// Rule 3.3, the nearest feature. `Within`: the point is in the piece. `Edge(i)`: strictly between the ends of edge i.
 pub enum Feature {
     Within,
     Corner(usize),
@@ -20,7 +20,7 @@ pub struct NearestPoint {
     pub point: Point,
 }
 
-// What the call answers.
+// What the call for the nearest point answers.
 pub enum NearestAnswer {
     Found(NearestPoint),
     Refused(Refusal),

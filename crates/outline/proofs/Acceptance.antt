@@ -6,7 +6,7 @@
 --     range-taken, convex-taken    the checks 4 and 6 take exactly where all corners are in range; where they are
 --                                  strictly convex
 use Prim.Native.Nat.{ℕ, _<_, _%_}
-use mathlib.Core.Path.{_≡_}
+use mathlib.Core.Path.{_≡_, refl}
 use mathlib.Core.Logic.{_↔_, Iff·trans, _≢_}
 use mathlib.Core.Bool.{Bool, true, not}
 use mathlib.Core.List.{List}
@@ -16,8 +16,9 @@ use lib.IntN.{ℤ}
 use lib.ListN.{length}
 use Rattle.integers.proofs.Reflect.{test-not, test-and, test-stable, test-eqb, test-ltb}
 use Rattle.plane.specs.declared.Corner.{Corner}
-use Rattle.plane.specs.Range.{InRange, inRange}
-use Rattle.plane.specs.Vector.{isLeft}
+use Rattle.plane.specs.Range.{InRange}
+use Rattle.plane.specs.code.Range.{inRange}
+use Rattle.plane.specs.code.Tests.{isLeft}
 use Rattle.plane.proofs.Tests.{inRange-true, same-true, isLeft-true}
 use Rattle.outline.specs.declared.Place.the-variants.{Nowhere}
 use Rattle.outline.specs.declared.Refusal.{Refusal}
@@ -26,12 +27,12 @@ use Rattle.outline.specs.declared.Verdict.the-variants.{Taken, Refused}
 use Rattle.outline.specs.Conditions.{NotLeftOf, outOfRange, repeated, notLeft, readingConditions, AcceptedList}
 use Rattle.outline.specs.Convex.{AllInRange, LeftOf, StrictlyConvex}
 use Rattle.outline.specs.Corners.{corners, corner, next, edge, fewest, most}
-use Rattle.outline.specs.Reading.{isOutOfRange, isRepeated, isNotLeft}
-use Rattle.outline.specs.Reading.{checkRange, checkRepeated, checkEdge, checkConvex, checks, check}
-use Rattle.outline.specs.Refusal.{FirstFault, NoneApplies}
+use Rattle.outline.specs.code.Reading.{isOutOfRange, isRepeated, isNotLeft}
+use Rattle.outline.specs.code.Reading.{checkRange, checkRepeated, checkEdge, checkConvex, checks, check}
+use Rattle.outline.specs.Refusal.{FirstFault}
 use Rattle.outline.proofs.EdgeLaws.{accepted-polygon, polygon-distinct}
 use Rattle.outline.proofs.ConditionLaws.{_and_, Decides, AllDecide, decides-taken, first-refused, first-taken}
-use Rattle.outline.proofs.ConditionLaws.{nowhere-plain, lowest-none, nowhere-edge}
+use Rattle.outline.proofs.ConditionLaws.{NoneApplies, nowhere-plain, lowest-none, nowhere-edge}
 use Rattle.outline.proofs.ConditionLaws.{test-decides, tests-taken, lowest-decides, edges-taken, edges-decide}
 
 -- ---- each check of the corners: its test, by its meaning; that it decides its condition; what it means that it takes
@@ -128,9 +129,9 @@ module _ (whose : RefusedSide) (s : List ℤ) where
     where
       there : NoneApplies (readingConditions whose s) → AcceptedList s
       there (not-odd, (not-few, (not-many, (none-out, (none-repeated, (none-not-left, _)))))) =
-          let odd : ¬ (length s % 2 ≡ 1) = λ is. not-odd (Nowhere, is) in
-          let few : ¬ (length cs < fewest) = λ is. not-few (Nowhere, is) in
-          let many : ¬ (most < length cs) = λ is. not-many (Nowhere, is) in (
+          let odd : ¬ (length s % 2 ≡ 1) = λ is. not-odd (Nowhere, (refl, is)) in
+          let few : ¬ (length cs < fewest) = λ is. not-few (Nowhere, (refl, is)) in
+          let many : ¬ (most < length cs) = λ is. not-many (Nowhere, (refl, is)) in (
             omega arith,
             record {
               at-least = omega arith;

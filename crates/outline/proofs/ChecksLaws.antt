@@ -22,7 +22,7 @@ use Rattle.lists.proofs.FirstLaws.{Priority, NoneBelow, First, fold-none, fold-
 use Rattle.outline.specs.declared.Refusal.{Refusal}
 use Rattle.outline.specs.declared.Verdict.{Verdict}
 use Rattle.outline.specs.declared.Verdict.the-variants.{Taken, Refused}
-use Rattle.outline.specs.Checks.{refuseIf, _orElse_, first, each}
+use Rattle.outline.specs.code.Checks.{refuseIf, _orElse_, first, each}
 
 pub taken≢refused : {v : Verdict} {r : Refusal} → v ≡ Taken → v ≡ Refused r → ⊥
 taken≢refused p q = let z : _≡_ {A = ℕ} 0 1 = cc in omega arith

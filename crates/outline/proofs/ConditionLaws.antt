@@ -4,11 +4,13 @@
 --                                   comes under it
 --     decides-taken                 so it takes exactly where the condition does not apply
 --     AllDecide                     each of some checks decides its condition
+--     NoneApplies                   none of some conditions applies
 --     first-refused, first-taken    the checks refuse with the refusal of the first condition that applies, and take
 --                                   where none does
 --     decide-append, none-append, fault-append    of two lists, one after the other
 --     allNumbers, fault-number      a test that each condition's number passes, a refusal's passes
---     nowhere-plain, lowest-none, nowhere-edge    a condition that applies nowhere
+--     nowhere-plain, nowhere-edge    a condition that applies nowhere
+--     lowest-none                   one with a number applies nowhere exactly where no number below n passes its test
 -- A check that decides a condition:
 --     test-decides                  without a place, by a test
 --     lowest-decides                with a number, by a test at each number below n
@@ -28,10 +30,10 @@ use Rattle.outline.specs.declared.RefusedSide.{RefusedSide}
 use Rattle.outline.specs.declared.RefusedSide.the-variants.{NoSide}
 use Rattle.outline.specs.declared.Verdict.{Verdict}
 use Rattle.outline.specs.declared.Verdict.the-variants.{Taken, Refused}
-use Rattle.outline.specs.Checks.{refuseIf, first, each}
+use Rattle.outline.specs.code.Checks.{refuseIf, first, each}
 use Rattle.outline.specs.Conditions.{Lowest}
 use Rattle.outline.specs.Refusal.{Condition, withoutPlace, atNumber, atEdgeAndCorner, refusal, Gives, Applies}
-use Rattle.outline.specs.Refusal.{FirstFault, NoneApplies}
+use Rattle.outline.specs.Refusal.{FirstFault}
 use Rattle.outline.proofs.ChecksLaws.{taken≢refused, not-refused, orElse-taken, orElse-refused}
 use Rattle.outline.proofs.ChecksLaws.{refuseIf-taken, refuseIf-refused, each-taken, each-refused}
 
@@ -40,6 +42,7 @@ infixr 20 _and_
 abbrev pub _and_ : {A B : Type 0} → A → B → A × B
 a and b = (a, b)
 
+-- a check refuses exactly where its condition applies, and with the refusal that comes under it
 abbrev pub Decides : Verdict → Condition → Type 0
 Decides v c = (r : Refusal) → (v ≡ Refused r) ↔ Gives c r
 
@@ -49,13 +52,19 @@ decides-taken {v} {c} decides = (
   λ none. not-refused v (λ r refuses. (let (p, applies, is) = decides r .0 refuses in none (p, applies))),
 )
 
+-- each of some checks decides its condition
 abbrev pub AllDecide : List Verdict → List Condition → Type 0
 AllDecide [] [] = Unit {0}
 AllDecide [] (c ∷ cs) = ⊥
 AllDecide (v ∷ vs) [] = ⊥
 AllDecide (v ∷ vs) (c ∷ cs) = Decides v c × AllDecide vs cs
 
--- document 01: it comes only under its condition; where several apply, the first stands
+-- none of some conditions applies
+abbrev pub NoneApplies : List Condition → Type 0
+NoneApplies [] = Unit {0}
+NoneApplies (c ∷ cs) = (¬ Applies c) × NoneApplies cs
+
+-- rule 2.2: it comes only under its condition; where several apply, the first stands
 pub first-refused : (vs : List Verdict) (cs : List Condition) → AllDecide vs cs
     → (r : Refusal) → (first vs ≡ Refused r) ↔ FirstFault cs r
 first-refused [] [] decide r = (λ e. taken≢refused refl e, λ none. absurd none)
@@ -120,28 +129,13 @@ fault-number test (c ∷ cs) r all fault =
 
 -- ---- a condition that applies nowhere, by what it says of the place
 pub nowhere-plain : {P : Type 0} → ¬ P → ¬ ((p : Place) × withoutPlace P p)
-nowhere-plain {P} none (p, holds) = at-place p holds
-  where
-    at-place : (p : Place) → ¬ withoutPlace P p
-    at-place Nowhere = none
-    at-place (At i) = λ e. e
-    at-place (EdgeAndCorner e c) = λ e. e
+nowhere-plain none (p, (here, holds)) = none holds
 
 nowhere-number : {P : ℕ → Type 0} → ((i : ℕ) → ¬ P i) → ¬ ((p : Place) × atNumber P p)
-nowhere-number {P} none (p, holds) = at-place p holds
-  where
-    at-place : (p : Place) → ¬ atNumber P p
-    at-place Nowhere = λ e. e
-    at-place (At i) = none i
-    at-place (EdgeAndCorner e c) = λ e. e
+nowhere-number none (p, (i, here, holds)) = none i holds
 
 pub nowhere-edge : {P : ℕ → ℕ → Type 0} → ((e c : ℕ) → ¬ P e c) → ¬ ((p : Place) × atEdgeAndCorner P p)
-nowhere-edge {P} none (p, holds) = at-place p holds
-  where
-    at-place : (p : Place) → ¬ atEdgeAndCorner P p
-    at-place Nowhere = λ e. e
-    at-place (At i) = λ e. e
-    at-place (EdgeAndCorner e c) = none e c
+nowhere-edge none (p, (e, c, here, holds)) = none e c holds
 
 -- ---- tests at the numbers below n
 module _ {P : ℕ → Type 0} (t : ℕ → Bool) (means : (i : ℕ) → (t i ≡ true) ↔ P i) (refusalAt : ℕ → Refusal) (n : ℕ) where
@@ -190,14 +184,9 @@ module _ (number : ℕ) (whose : RefusedSide) where
 
     pub test-decides : Decides (refuseIf b (refusal plain Nowhere)) plain
     test-decides r = Iff·trans (refuseIf-refused b means (refusal plain Nowhere) r) (
-      λ (is, holds). (Nowhere, holds, is),
-      λ (p, applies, is). back p applies is,
+      λ (is, holds). (Nowhere, (refl, holds), is),
+      λ (p, (here, holds), is). (rw here at is, holds),
     )
-      where
-        back : (p : Place) → withoutPlace P p → refusal plain p ≡ r → (refusal plain Nowhere ≡ r) × P
-        back Nowhere holds is = (is, holds)
-        back (At i) none is = absurd none
-        back (EdgeAndCorner e c) none is = absurd none
 
   module _ {P : ℕ → Type 0} (t : ℕ → Bool) (means : (i : ℕ) → (t i ≡ true) ↔ P i) (n : ℕ) where
     abbrev numbered : Condition
@@ -205,15 +194,9 @@ module _ (number : ℕ) (whose : RefusedSide) where
 
     pub lowest-decides : Decides (each (λ i. refuseIf (t i) (refusal numbered (At i))) n) numbered
     lowest-decides r = Iff·trans (tests-refused t means (λ i. refusal numbered (At i)) n r) (
-      λ (i, is, low). (At i, low, is),
-      λ (p, applies, is). back p applies is,
+      λ (i, is, low). (At i, (i, refl, low), is),
+      λ (p, (i, here, low), is). (i, rw here at is, low),
     )
-      where
-        back : (p : Place) → atNumber (Lowest P n) p → refusal numbered p ≡ r
-            → (i : ℕ) × (refusal numbered (At i) ≡ r) × Lowest P n i
-        back Nowhere none is = absurd none
-        back (At i) low is = (i, is, low)
-        back (EdgeAndCorner e c) none is = absurd none
 
   module _ {P : ℕ → ℕ → Type 0} (t : ℕ → ℕ → Bool) (means : (e c : ℕ) → (t e c ≡ true) ↔ P e c) (n : ℕ) where
     -- some corner of edge e
@@ -233,7 +216,7 @@ module _ (number : ℕ) (whose : RefusedSide) where
     edgeCheck e = each (λ c. refuseIf (t e c) (refusalOf e c)) n
 
     -- an edge is taken exactly where no corner fails its test
-    pub edge-taken : (e : ℕ) → (edgeCheck e ≡ Taken) ↔ (¬ Some e)
+    edge-taken : (e : ℕ) → (edgeCheck e ≡ Taken) ↔ (¬ Some e)
     edge-taken e = Iff·trans (tests-taken (t e) (means e) (refusalOf e) n) (
       λ none (c, below, holds). none c below holds,
       λ none c below holds. none (c, below, holds),
@@ -246,7 +229,7 @@ module _ (number : ℕ) (whose : RefusedSide) where
     )
 
     pub edges-decide : Decides (each edgeCheck n) paired
-    edges-decide r = Iff·trans (each-refused edgeCheck n r) (there, λ (p, applies, is). back p applies is)
+    edges-decide r = Iff·trans (each-refused edgeCheck n r) (there, back)
       where
         there : First Taken edgeCheck n (Refused r) → Gives paired r
         there at =
@@ -257,15 +240,13 @@ module _ (number : ℕ) (whose : RefusedSide) where
               here = (c, low .below, low .here);
               lowest = λ e lower. edge-taken e .0 (at .earlier e lower);
             } in
-            (EdgeAndCorner (at .place) c, (lowest, low), is)
+            (EdgeAndCorner (at .place) c, (at .place, c, refl, (lowest, low)), is)
 
-        back : (p : Place) → atEdgeAndCorner LowestPair p → refusal paired p ≡ r → First Taken edgeCheck n (Refused r)
-        back Nowhere none is = absurd none
-        back (At i) none is = absurd none
-        back (EdgeAndCorner e c) (lowest, low) is = record {
+        back : Gives paired r → First Taken edgeCheck n (Refused r)
+        back (p, (e, c, here, (lowest, low)), is) = record {
           place = e;
           below = lowest .below;
-          here = tests-refused (t e) (means e) (refusalOf e) n r .1 (c, is, low);
+          here = tests-refused (t e) (means e) (refusalOf e) n r .1 (c, rw here at is, low);
           earlier = λ f lower. edge-taken f .1 (lowest .lowest f lower);
         }
 

@@ -7,7 +7,7 @@
 --     next-not-previous              the corner before is not the one after
 --     length-corners                 two numbers to a corner
 --     corners-fit                    all corners lie in the list
---     corner-at                      document 01: corner i is numbers 2 i and 2 i + 1
+--     corner-at                      corner i is numbers 2 i and 2 i + 1
 --     length-coordinates, coordinate-x, coordinate-y    the same for corners written as numbers
 --     corners-coordinates            corners written as numbers and read again are the same corners
 use Prim.Native.Nat.{ℕ, zero, suc, _+_, _-_, _*_, _/_, _<_, _≤_}

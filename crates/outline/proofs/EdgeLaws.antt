@@ -15,12 +15,13 @@ use lib.Signed.{_<ℤ_, <ℤ-irrefl}
 use Rattle.integers.specs.Size.{AtMost}
 use Rattle.integers.proofs.Order.{natAbs-nonneg}
 use Rattle.plane.specs.declared.Corner.{Corner}
-use Rattle.plane.specs.Range.{Span, reach, productLimit}
+use Rattle.plane.specs.code.Range.{Span, reach, productLimit}
 use Rattle.plane.specs.Vector.{dot, side}
 use Rattle.plane.proofs.Algebra.{dot-self, side-same, distinct-length}
 use Rattle.plane.proofs.Arithmetic.{dot-is}
 use Rattle.plane.proofs.Range.{span-⇀}
-use Rattle.outline.specs.Convex.{AllInRange, Accepted, Polygon}
+use Rattle.outline.specs.Convex.{AllInRange, Accepted}
+use Rattle.outline.specs.code.Polygon.{Polygon}
 use Rattle.outline.specs.Corners.{corner, next, edge}
 use Rattle.outline.proofs.CornersLaws.{next-below, next-other, next-next-other}
 

@@ -4,7 +4,8 @@
 --     cornersOf-held               the corners of a held list are the list
 --     held-outline                 an accepted list, held, is an outline
 --     length-cornersOf, cornersOf-corner    the corners of a value: the count says how many, and corner i is in place i
---     length-mapped                for a value that a function is handed: what is known of its places is their number as tuples.
+--     length-mapped                for a value that a function is handed: what is known of its places is their
+--                                  number as tuples.
 --                                  `search length-mapped` finds that there are 256
 use Prim.Native.Nat.{ℕ, _+_, _-_, _<_, _≤_}
 use mathlib.Core.Path.{_≡_, sym, ap, _∙_}
@@ -14,8 +15,10 @@ use lib.ListN.{length, getD, replicate, length-append, length-map, length-replic
 use lib.Seq.{getD-append-add, take-append-seam, length-take-le, getD-take}
 use Rattle.plane.specs.declared.Corner.{Corner}
 use Rattle.outline.specs.declared.Outline.{Outline}
-use Rattle.outline.specs.Convex.{Accepted, IsOutline}
-use Rattle.outline.specs.Corners.{corner, origin, most, held, cornersOf}
+use Rattle.outline.specs.Convex.{Accepted}
+use Rattle.outline.specs.code.Held.{IsOutline}
+use Rattle.outline.specs.Corners.{corner, origin, most, held}
+use Rattle.outline.specs.code.Held.{cornersOf}
 
 module _ (cs : List Corner) where
   pub held-places : length cs ≤ most → length (held cs .corners) ≡ most

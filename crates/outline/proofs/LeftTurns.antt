@@ -1,4 +1,5 @@
--- Strict convexity without edges: any three corners, in number order, turn left. So a part of a strictly convex list is one.
+-- Strict convexity without edges: any three corners, in number order, turn left. So a part of a strictly convex
+-- list is one.
 --     Left            a corner is strictly left of the line from one corner to another
 --     LeftTurns       any three corners, in number order, turn left
 --     left-turn, left-turn-back    of three corners taken round
@@ -40,7 +41,8 @@ module _ (cs : List Corner) (convex : StrictlyConvex cs) where
   edge : (e c : ℕ) → (suc e < length cs) × (c < length cs) × (c ≢ e) × (c ≢ suc e) → Left cs e (suc e) c
   edge e c h = rw (next-suc (length cs) e (h .0)) at (convex e c (omega arith) (h .1) (h .2) (omega (arith, next-suc (length cs) e (h .0))))
 
-  -- From j to j + 1 by `left-of-chord` with the edge into corner m + 1, unless that edge starts at j + 1, or the edge from i ends there.
+  -- From j to j + 1 by `left-of-chord` with the edge into corner m + 1, unless that edge starts at j + 1, or the
+  -- edge from i ends there.
   turns : (i j m : ℕ) → i < j → j ≤ m → suc m < length cs → Left cs i j (suc m)
   turns i zero m h k l = absurd (omega arith)
   turns i (suc j) m h k l =

@@ -20,7 +20,7 @@ use Rattle.plane.proofs.Algebra.{side-end}
 use Rattle.plane.proofs.Cone.{left-trans}
 use Rattle.outline.specs.Convex.{StrictlyConvex}
 use Rattle.outline.specs.Corners.{corner}
-use Rattle.outline.specs.Turns.{keepsLeftAt, isConvex}
+use Rattle.outline.specs.code.Turns.{keepsLeftAt, isConvex}
 use Rattle.outline.proofs.LeftTurns.{Left, LeftTurns, left-turn, left-turn-back, convex-turns, turns-convex}
 
 module _ (cs : List Corner) where
@@ -44,7 +44,8 @@ module _ (cs : List Corner) where
   left-end : (i j l : ℕ) → Left cs i j l → pos 0 <ℤ cross (corner cs i ⇀ corner cs j) (corner cs j ⇀ corner cs l)
   left-end i j l h = rw (side-end (corner cs i) (corner cs j) (corner cs l)) at h
 
-  -- Seen from corner a, the corners after m turn left in number order if each turns left from the one before and all are left of e.
+  -- Seen from corner a, the corners after m turn left in number order if each turns left from the one before and
+  -- all are left of e.
   around : (a m : ℕ) (e : Vector)
       → ((c : ℕ) → m < c → c < length cs → pos 0 <ℤ cross e (corner cs a ⇀ corner cs c))
       → ((c : ℕ) → m < c → suc c < length cs → Left cs a c (suc c))
@@ -76,7 +77,8 @@ module _ (cs : List Corner) where
           | no o ↦ around 0 1 (corner cs 0 ⇀ corner cs 1) first (λ b h l. fan b (omega arith) l) b c (omega arith) k l
         ]
 
-    -- Every corner before an edge is left of it: seen from the edge's start, its end, corner 0 and that corner are left of the edge before.
+    -- Every corner before an edge is left of it: seen from the edge's start, its end, corner 0 and that corner are
+    -- left of the edge before.
     of-edges : (a b : ℕ) → 0 < a → a < b → suc b < length cs → Left cs a b (suc b)
     of-edges a zero h k l = absurd (omega arith)
     of-edges a (suc b) h k l =

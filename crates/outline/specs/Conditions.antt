@@ -1,11 +1,4 @@
--- What is refused in reading, as document 01 words each condition and its place.
---     Lowest               the lowest number below n of which something holds
---     NotLeftOf            a corner other than an edge's two ends that is not strictly left of the edge
---     SomeNotLeftOf        some corner is such
---     oddLength, ..        the conditions 1 to 6; `whose` is the side that a refusal names
---     cornerConditions     2 to 6, of corners
---     readingConditions    all six, in document 01's order
---     AcceptedList         a list gives an accepted outline
+-- Rule 2.4: what is refused in reading. `whose` is the side that a refusal names.
 use Prim.Native.Nat.{ℕ, _<_, _%_}
 use mathlib.Core.Path.{_≡_}
 use mathlib.Core.Logic.{_≢_}
@@ -19,63 +12,67 @@ use Rattle.outline.specs.Convex.{LeftOf, Accepted}
 use Rattle.outline.specs.Corners.{corners, corner, next, fewest, most}
 use Rattle.outline.specs.Refusal.{Condition, withoutPlace, atNumber, atEdgeAndCorner}
 
+-- i is the lowest number below n of which P holds
 pub record Lowest (P : ℕ → Type 0) (n i : ℕ) : Type 0 where
   pub below : i < n
   pub here : P i
   pub lowest : (j : ℕ) → j < i → ¬ P j
 
+-- corner c is no end of edge e and not strictly left of it
 pub record NotLeftOf (cs : List Corner) (e c : ℕ) : Type 0 where
   pub not-start : c ≢ e
   pub not-end : c ≢ next (length cs) e
   pub not-left : ¬ LeftOf cs e c
 
--- some corner is not strictly left of edge e
+-- some corner other than the two ends of edge e is not strictly left of it
 abbrev pub SomeNotLeftOf : List Corner → ℕ → Type 0
 SomeNotLeftOf cs e = (c : ℕ) × (c < length cs) × NotLeftOf cs e c
 
-module _ (whose : RefusedSide) where
-  -- 1, the list has an odd length
-  abbrev pub oddLength : List ℤ → Condition
-  oddLength s = record { number = 1; side = whose; applies = withoutPlace (length s % 2 ≡ 1) }
+-- 1, the list has an odd length
+abbrev pub oddLength : RefusedSide → List ℤ → Condition
+oddLength whose s = record { number = 1; side = whose; applies = withoutPlace (length s % 2 ≡ 1) }
 
-  -- 2, fewer than 3 corners
-  abbrev pub tooFew : List Corner → Condition
-  tooFew cs = record { number = 2; side = whose; applies = withoutPlace (length cs < fewest) }
+-- 2, fewer than 3 corners
+abbrev pub tooFew : RefusedSide → List Corner → Condition
+tooFew whose cs = record { number = 2; side = whose; applies = withoutPlace (length cs < fewest) }
 
-  -- 3, more than 256 corners
-  abbrev pub tooMany : List Corner → Condition
-  tooMany cs = record { number = 3; side = whose; applies = withoutPlace (most < length cs) }
+-- 3, more than 256 corners
+abbrev pub tooMany : RefusedSide → List Corner → Condition
+tooMany whose cs = record { number = 3; side = whose; applies = withoutPlace (most < length cs) }
 
-  -- 4, a coordinate out of range; the place is the first such corner
-  abbrev pub outOfRange : List Corner → Condition
-  outOfRange cs = record {
-    number = 4;
-    side = whose;
-    applies = atNumber (Lowest (λ i. ¬ InRange (corner cs i)) (length cs));
-  }
+-- 4, a coordinate out of range; the place is the lowest such corner
+abbrev pub outOfRange : RefusedSide → List Corner → Condition
+outOfRange whose cs = record {
+  number = 4;
+  side = whose;
+  applies = atNumber (Lowest (λ i. ¬ InRange (corner cs i)) (length cs));
+}
 
-  -- 5, a corner equal to the following one (the last against corner 0); the place is the first such corner
-  abbrev pub repeated : List Corner → Condition
-  repeated cs = record {
-    number = 5;
-    side = whose;
-    applies = atNumber (Lowest (λ i. corner cs i ≡ corner cs (next (length cs) i)) (length cs));
-  }
+-- 5, a corner equal to the following one (the last against corner 0); the place is the lowest such corner
+abbrev pub repeated : RefusedSide → List Corner → Condition
+repeated whose cs = record {
+  number = 5;
+  side = whose;
+  applies = atNumber (Lowest (λ i. corner cs i ≡ corner cs (next (length cs) i)) (length cs));
+}
 
-  -- 6, some corner is not strictly left of an edge; the place is the lowest such edge and then its lowest such corner
-  abbrev pub notLeft : List Corner → Condition
-  notLeft cs = record {
-    number = 6;
-    side = whose;
-    applies = atEdgeAndCorner (λ e c. Lowest (SomeNotLeftOf cs) (length cs) e × Lowest (NotLeftOf cs e) (length cs) c);
-  }
+-- 6, some corner is not strictly left of an edge; the place is the lowest such edge and then its lowest such corner
+abbrev pub notLeft : RefusedSide → List Corner → Condition
+notLeft whose cs = record {
+  number = 6;
+  side = whose;
+  applies = atEdgeAndCorner (λ e c. Lowest (SomeNotLeftOf cs) (length cs) e × Lowest (NotLeftOf cs e) (length cs) c);
+}
 
-  abbrev pub cornerConditions : List Corner → List Condition
-  cornerConditions cs = tooFew cs ∷ tooMany cs ∷ outOfRange cs ∷ repeated cs ∷ notLeft cs ∷ []
+-- 2 to 6, of corners
+abbrev pub cornerConditions : RefusedSide → List Corner → List Condition
+cornerConditions whose cs =
+    tooFew whose cs ∷ tooMany whose cs ∷ outOfRange whose cs ∷ repeated whose cs ∷ notLeft whose cs ∷ []
 
-  abbrev pub readingConditions : List ℤ → List Condition
-  readingConditions s = oddLength s ∷ cornerConditions (corners s)
+-- all six, in their order
+abbrev pub readingConditions : RefusedSide → List ℤ → List Condition
+readingConditions whose s = oddLength whose s ∷ cornerConditions whose (corners s)
 
--- its length is even and its corners are an accepted outline's
+-- the list gives an accepted outline: its length is even and its corners are accepted
 abbrev pub AcceptedList : List ℤ → Type 0
 AcceptedList s = (length s % 2 ≡ 0) × Accepted (corners s)

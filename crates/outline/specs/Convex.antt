@@ -1,10 +1,4 @@
--- Which lists of corners are accepted.
---     AllInRange        every coordinate is in range
---     LeftOf            a corner is strictly left of an edge
---     StrictlyConvex    every corner other than an edge's two ends is strictly left of the edge
---     Polygon           strictly convex, of three corners or more: what the laws of geometry ask, with no range and no limit of 256
---     Accepted          document 01: an outline is accepted
---     IsOutline         a value that holds an accepted outline
+-- Rule 1.4: which corners are an accepted outline's.
 use Prim.Native.Nat.{ℕ, _≤_, _<_}
 use mathlib.Core.Logic.{_≢_}
 use mathlib.Core.List.{List}
@@ -14,9 +8,9 @@ use lib.Signed.{_<ℤ_}
 use Rattle.plane.specs.declared.Corner.{Corner}
 use Rattle.plane.specs.Range.{InRange}
 use Rattle.plane.specs.Vector.{side}
-use Rattle.outline.specs.declared.Outline.{Outline}
-use Rattle.outline.specs.Corners.{corner, next, fewest, most, cornersOf}
+use Rattle.outline.specs.Corners.{corner, next, fewest, most}
 
+-- every coordinate is in range
 abbrev pub AllInRange : List Corner → Type 0
 AllInRange cs = (i : ℕ) → i < length cs → InRange (corner cs i)
 
@@ -29,17 +23,9 @@ abbrev pub StrictlyConvex : List Corner → Type 0
 StrictlyConvex cs =
     (e c : ℕ) → e < length cs → c < length cs → c ≢ e → c ≢ next (length cs) e → LeftOf cs e c
 
-pub record Polygon (cs : List Corner) : Type 0 where
-  pub at-least : 3 ≤ length cs
-  pub convex : StrictlyConvex cs
-
 -- 3 to 256 corners, every coordinate in range, and strictly convex
 pub record Accepted (cs : List Corner) : Type 0 where
   pub at-least : fewest ≤ length cs
   pub at-most : length cs ≤ most
   pub in-range : AllInRange cs
   pub convex : StrictlyConvex cs
-
-pub record IsOutline (o : Outline) : Type 0 where
-  pub fits : o .count ≤ most
-  pub accepted : Accepted (cornersOf o)

@@ -1,8 +1,7 @@
--- Document 01, "Pieces, corners and edges" and the refusals of "The calls and what they turn down".
+-- Outlines, and what reading one refuses: sections 1 and 2 of docs/SPECIFICATION.md.
 pub mod Corners
 pub mod Convex
 pub mod Refusal
 pub mod Conditions
-pub mod Checks
-pub mod Turns
 pub mod Reading
+pub mod code

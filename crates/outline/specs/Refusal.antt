@@ -1,11 +1,4 @@
--- Document 01's refusals: a call has conditions in an order, and the first that applies stands.
---     Condition                                   a condition: its number, the side that it is about, and at which
---                                                 places it applies
---     withoutPlace, atNumber, atEdgeAndCorner     what a condition says of the place
---     refusal                                     the refusal under a condition, with its place
---     Gives, Applies                              a refusal comes under a condition; some does
---     FirstFault, NoneApplies                     a refusal comes under the first of some conditions that applies; none
---                                                 applies
+-- Refusals: a call has conditions in an order, and the first that applies stands.
 use Prim.Native.Nat.{ℕ}
 use mathlib.Core.Path.{_≡_}
 use mathlib.Core.Logic.{_⊎_}
@@ -21,25 +14,19 @@ pub record Condition : Type 1 where
   pub side : RefusedSide
   pub applies : Place → Type 0
 
--- the place: none
+-- P holds; there is no place
 abbrev pub withoutPlace : Type 0 → Place → Type 0
-withoutPlace P Nowhere = P
-withoutPlace P (At i) = ⊥
-withoutPlace P (EdgeAndCorner e c) = ⊥
+withoutPlace P p = (p ≡ Nowhere) × P
 
--- one number
+-- the place is one number, of which P holds
 abbrev pub atNumber : (ℕ → Type 0) → Place → Type 0
-atNumber P Nowhere = ⊥
-atNumber P (At i) = P i
-atNumber P (EdgeAndCorner e c) = ⊥
+atNumber P p = (i : ℕ) × (p ≡ At i) × P i
 
--- an edge and a corner
+-- the place is an edge and a corner, of which P holds
 abbrev pub atEdgeAndCorner : (ℕ → ℕ → Type 0) → Place → Type 0
-atEdgeAndCorner P Nowhere = ⊥
-atEdgeAndCorner P (At i) = ⊥
-atEdgeAndCorner P (EdgeAndCorner e c) = P e c
+atEdgeAndCorner P p = (e : ℕ) × (c : ℕ) × (p ≡ EdgeAndCorner e c) × P e c
 
--- the condition's number and side, with a place
+-- rule 2.1: the condition's number and side, with a place
 abbrev pub refusal : Condition → Place → Refusal
 refusal c p = record { number = c .number; side = c .side; place = p }
 
@@ -47,15 +34,11 @@ refusal c p = record { number = c .number; side = c .side; place = p }
 abbrev pub Gives : Condition → Refusal → Type 0
 Gives c r = (p : Place) × c .applies p × (refusal c p ≡ r)
 
--- at some place
+-- the condition applies, at some place
 abbrev pub Applies : Condition → Type 0
 Applies c = (p : Place) × c .applies p
 
--- where several apply, the first stands
+-- rule 2.2: the refusal comes under the first of the conditions that applies
 abbrev pub FirstFault : List Condition → Refusal → Type 0
 FirstFault [] r = ⊥
 FirstFault (c ∷ cs) r = Gives c r ⊎ ((¬ Applies c) × FirstFault cs r)
-
-abbrev pub NoneApplies : List Condition → Type 0
-NoneApplies [] = Unit {0}
-NoneApplies (c ∷ cs) = (¬ Applies c) × NoneApplies cs

@@ -31,7 +31,7 @@ pub enum Place {
     EdgeAndCorner(usize, usize),
 }
 
-// Document 01: a refusal.
+// Rule 2.1, a refusal.
 pub struct Refusal {
     pub number: u32,
     pub side: RefusedSide,

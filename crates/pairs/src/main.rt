@@ -1,19 +1,17 @@
-// Generated pairs of lists, compared through the public call with several allowances each. For each pair the input has the
-// length of A's list and its numbers, the length of B's list and its numbers, and the number of allowances and these.
-// Each comparison prints one line. `tests/pairs.py` writes the input and, by another way, what is to be printed.
-mod input;
+// Generated pairs of lists, compared through the public call with several allowances each. For each pair the input
+// has the length of A's list and its numbers, the length of B's list and its numbers, and the number of allowances
+// and these. Each comparison prints one line. `tests/pairs.py` writes the input and, by another way, what is to be
+// printed.
 mod report;
 
 use libc::STDIN_FILENO;
-ghost use mathlib.Core.Path.{_≡_};
-ghost use lib.ListN.{length};
 
 // Compares two lists with each of the allowances, which stand at a place of the input. Gives the place after them.
 fn compare_each(s: &[u8], from: usize, a: &[i32], b: &[i32]) -> usize {
-    let count = input::read_number(s, from);
+    let count = case_input::read_number(s, from);
     let mut next = count.next;
     for _ in 0..count.size {
-        let allowance = input::read_number(s, next);
+        let allowance = case_input::read_number(s, next);
         report::print_comparison(calls::compare(a, b, allowance.size));
         next = allowance.next;
     }
@@ -22,8 +20,8 @@ fn compare_each(s: &[u8], from: usize, a: &[i32], b: &[i32]) -> usize {
 
 // Compares the pair at a place of the input. Gives the place after it.
 fn compare_pair(s: &[u8], from: usize) -> usize {
-    let a = input::read_list(s, from);
-    let b = input::read_list(s, a.next);
+    let a = case_input::read_list(s, from);
+    let b = case_input::read_list(s, a.next);
     let acount = a.count;
     let bcount = b.count;
     let aitems = a.items;
@@ -43,15 +41,8 @@ fn compare_pairs(s: &[u8]) {
     }
 }
 
-// Room for the input. The length as a contract spares the proof of `main` the list of all the zeros.
-fn room() -> [u8; 1048576]
-    ensures { λ r. ⌜ 1048576 ≡ length r ⌝ }
-{
-    [0; 1048576]
-}
-
 fn main() {
-    let mut text = room();
+    let mut text = case_input::room();
     let count = io::read_full(STDIN_FILENO, &mut text);
     compare_pairs(&text[..count]);
 }

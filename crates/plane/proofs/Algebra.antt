@@ -9,7 +9,8 @@
 --     side-end, side-turn             a side number from the edge's other end; of three points taken round
 --     side-same                       against an edge from a point to itself it is 0
 --     side-start, side-stop           and so it is of the edge's own ends
---     dot-less, dot-back              dot u is not above 0 from p to q where it is not greater at q; and then not below 0 from q to p
+--     dot-less, dot-back              dot u is not above 0 from p to q where it is not greater at q; and then not
+--                                     below 0 from q to p
 --     cramer-x, cramer-y              cross e f times d is cross d f times e plus cross e d times f, in each component
 --     cramer-dot, cramer-cross        the same, dotted with u; crossed with g
 --     dot-self                        a squared length is not negative

@@ -1,5 +1,6 @@
--- The functions of `plane` compute exactly in 64 bits. For an expression of the code, as a goal shows it, `-fits` says that
--- its result fits an i64, `-exact` that the result, read back, is the number that a contract names, and `-is` both with a bound.
+-- The functions of `plane` compute exactly in 64 bits. For an expression of the code, as a goal shows it, `-fits`
+-- says that its result fits an i64, `-exact` that the result, read back, is the number that a contract names, and
+-- `-is` both with a bound.
 --     cast-fits, cast-exact                 a coordinate, cast to i64
 --     difference-fits, difference-exact     of two coordinates
 --     product-fits                          of two components within reach
@@ -14,7 +15,7 @@ use mir.Syntax.{w32, w64}
 use mir.Val.{SFits}
 use Rattle.integers.specs.Size.{AtMost}
 use Rattle.integers.proofs.Machine.{i32, i64, Exact, value, field, stored, plus, minus, times, fits}
-use Rattle.plane.specs.Range.{Span, reach, productLimit}
+use Rattle.plane.specs.code.Range.{Span, reach, productLimit}
 use Rattle.plane.specs.Vector.{cross, dot}
 use Rattle.plane.specs.declared.Vector.{Vector}
 

@@ -1,11 +1,12 @@
 -- One corner of a strictly convex outline, by signs of products alone; whole components of any size.
 -- e is the edge into the corner and f the edge out of it, so cross e f is above 0; d runs from the corner.
---     cone             if dot u e is not below 0 and dot u f not above, then dot u d is not above 0 for any d right of neither edge
+--     cone             if dot u e is not below 0 and dot u f not above, then dot u d is not above 0 for any d right
+--                      of neither edge
 --     turn-next        d right of e, pointing along f and not back along e, is right of f
 --     turn-previous    its mirror: d right of f, pointing back along e and not along f, is right of e
 --     left-trans       of u, v and w left of e: v left of u and w left of v make w left of u
---     left-of-chord    d left of a to b and of b to c is left of a to c, if an edge into d has none of a, b, c on its right, and a on
---                      its left
+--     left-of-chord    d left of a to b and of b to c is left of a to c, if an edge into d has none of a, b, c on
+--                      its right, and a on its left
 use mathlib.Core.List.{[], _∷_}
 use lib.IntN.{pos}
 use lib.Signed.{_≤ℤ_, _<ℤ_}

@@ -3,16 +3,20 @@
 --     before?, along?              these are decided
 --     not-along-apart              directions that are not along are apart
 --     Around                       t lies from e counterclockwise to f, less than a whole turn
---     Across, across               d is in the first half and e in the second; so it is where d comes before e, which is not left of it
+--     Across, across               d is in the first half and e in the second; so it is where d comes before e,
+--                                  which is not left of it
 --     before-asym, before-irrefl   no two directions come before each other, and none before itself
 --     axis-first                   none comes before the positive x axis
---     before-split, before-trans   where d comes before f, any third direction comes after d or before f; so the order is transitive
---     same-iff, along-iff          directions are the same exactly where they are along, which is on one line and the same way
+--     before-split, before-trans   where d comes before f, any third direction comes after d or before f; so the
+--                                  order is transitive
+--     same-iff, along-iff          directions are the same exactly where they are along, which is on one line and
+--                                  the same way
 --     along-apart                  f does not have t's direction where e has it and f another than e
 --     around-start, around-end     t lies around where it has the direction of e, or of f
 --     around-turns                 and where it is not right of e and not left of f
---     cross-between, cross-first, cross-last    a direction k from e counterclockwise to f, which is less than half a turn on, is left of e
---                                  and has f on its left: if it comes between e and f, or, where f comes before e, before f or after e
+--     cross-between, cross-first, cross-last    a direction k from e counterclockwise to f, which is less than half
+--                                  a turn on, is left of e and has f on its left: if it comes between e and f, or,
+--                                  where f comes before e, before f or after e
 use mathlib.Core.Path.{_≡_, refl, sym, ap, _∙_}
 use mathlib.Core.Logic.{_⊎_, inl, inr, ⊎-elim, _↔_, Iff·trans, Iff·symm}
 use mathlib.Core.Bool.{Bool, true, false, not, Bool-discrete, true≢false}
@@ -107,9 +111,9 @@ same-or-across d e = go (isFirstHalf d) (isFirstHalf e) refl refl
 
 -- ---- a third direction beside two of one half
 
--- What is claimed of the sides of r on which e and f lie and t lies, and of the turns from e to t and from t to f: if t lies with e and f,
--- the turns are not both to the right, and if not, not both to the left. For cross e f times cross r t is cross r f times cross e t plus
--- cross r e times cross t f.
+-- What is claimed of the sides of r on which e and f lie and t lies, and of the turns from e to t and from t to f:
+-- if t lies with e and f, the turns are not both to the right, and if not, not both to the left. For cross e f
+-- times cross r t is cross r f times cross e t plus cross r e times cross t f.
 abbrev claims : (Expr → Claim) → (Expr → Claim) → (Expr → Claim) → List Claim
 claims ends third turns =
     let r = vec 0 in let e = vec 2 in let f = vec 4 in let t = vec 6 in
@@ -157,7 +161,7 @@ before-asym d e before back = elim (before-iff d e .0 before) [
 pub before-irrefl : (d : Vector) → ¬ Before d d
 before-irrefl d itself = before-asym d d itself itself
 
--- document 01: the angle is from the positive x axis. What comes before it would be in the first half and fall
+-- rule 5.1: the angle is from the positive x axis. What comes before it would be in the first half and fall
 pub axis-first : (d : Vector) → ¬ Before d (record { x = pos 1; y = pos 0 })
 unfolding cross isFirstHalf
 axis-first d before =
@@ -229,8 +233,8 @@ module _ (e f t : Vector) where
   pub around-end : Along f t → Around e f t
   around-end (a, b) = record { inside = inr a; rising = λ first. (λ h. b (before-trans t e f h first), a) }
 
-  -- if t came before e and after f it would lie in both halves; and where e comes before f, in the other half than both if it came before
-  -- e or after f
+  -- if t came before e and after f it would lie in both halves; and where e comes before f, in the other half than
+  -- both if it came before e or after f
   pub around-turns : NonZero t → pos 0 ≤ℤ cross e t → cross f t ≤ℤ pos 0 → Around e f t
   around-turns some left right = record { inside = inside; rising = λ before. (early before, late before) }
     where

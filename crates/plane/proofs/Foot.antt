@@ -1,9 +1,11 @@
--- The foot of a point v on the edge from p to q, (L p + t (q - p)) / L with L the edge's squared length and t = (v - p)·(q - p).
+-- The foot of a point v on the edge from p to q, (L p + t (q - p)) / L with L the edge's squared length and t = (v
+-- - p)·(q - p).
 --     foot                      the point that has n for L
 --     foot-left                 it is left of every line that p and q are left of, if t is from 0 to n
 --     foot-on-line              it is on the edge's line
 --     foot-after, foot-before   it is after p if t is above 0, and before q if t is below n
---     foot-bound                if v is right of the edge, (v - y)·(c - y) is at most 0 for the foot y and any c left of the edge
+--     foot-bound                if v is right of the edge, (v - y)·(c - y) is at most 0 for the foot y and any c
+--                               left of the edge
 use Prim.Native.Nat.{ℕ}
 use mathlib.Core.Path.{_≡_}
 use mathlib.Core.List.{[], _∷_}

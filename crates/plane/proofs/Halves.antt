@@ -1,5 +1,6 @@
--- The two half turns, by signs. A half turn is closed at one end only, which signs of products do not show. But for any three vectors there
--- is one just before the positive x axis that has those of the first half on its left and the others on its right.
+-- The two half turns, by signs. A half turn is closed at one end only, which signs of products do not show. But for
+-- any three vectors there is one just before the positive x axis that has those of the first half on its left and
+-- the others on its right.
 --     NonZero                  a vector is not 0
 --     Half, half               what the test `isFirstHalf` says
 --     first-up                 a vector of the first half does not fall
@@ -93,8 +94,8 @@ reference e f t e-some f-some t-some =
       of-t = half-sign t m t-some (prove env [] (var 2 ⊗ var 2 ≺ m') (hyp 0 ⊞ num 0 ⊞ sq (var 0) ⊞ sq (var 1)) tt) (isFirstHalf t) (half t);
     }
 
--- |d|² times cross r e is dot d e times cross r d, for d and e on one line. So e lies on the side of r where d lies exactly where it points
--- the same way.
+-- |d|² times cross r e is dot d e times cross r d, for d and e on one line. So e lies on the side of r where d lies
+-- exactly where it points the same way.
 module _ (r d e : Vector) (some : NonZero d) (line : cross d e ≡ pos 0) where
   abbrev d' : Expr
   d' = crossE (vec 0) (vec 2)

@@ -3,14 +3,19 @@
 --     pt i             the point whose x, y and lower number are the variables i, i + 1 and i + 2
 --     wholeE, _⇢E_     whole and _⇢_ of these
 --     numbers          the numbers of some points: the k-th is pt (3 k)
+-- Distances from one point, multiplied out:
+--     farness               the squared distance from v to y, on the scale that compares it with that from v to z
+--     NotFarther, Nearer    y is not farther from v than z; y is nearer to v than z
 -- Laws:
 --     whole-proper, whole-⇢           a corner as a point: its lower number is above 0, and _⇢_ of two corners is _⇀_
 --     dot-self-0                      the vector from a point to itself is 0, and so is its dot with any
 --     line-end                        a point's side number against an edge, from the edge's other end
---     dot-trans                       if q is not farther in the direction u than p, nor r than q, then r is not farther than p
+--     dot-trans                       if q is not farther in the direction u than p, nor r than q, then r is not
+--                                     farther than p
 --     same-refl, same-sym, same-trans, same?    being the same point is an equivalence, and it is decided
 --     not-apart                       points at squared distance 0 are the same
---     obtuse-not-farther, obtuse-nearer    where the angle at y from v to z is not acute, y is not farther from v than z, and nearer
+--     obtuse-not-farther, obtuse-nearer    where the angle at y from v to z is not acute, y is not farther from v
+--                                          than z, and nearer
 --                                     unless z is the same point
 --     obtuse-twice                    where that at z from v to y is not acute either, y and z are the same point
 use Prim.Native.Nat.{ℕ, suc}
@@ -23,7 +28,7 @@ use Rattle.integers.proofs.Certificate.{_≺_, _≼_, _≗_, hyp, num, sq, eqn,
 use Rattle.plane.specs.declared.Corner.{Corner}
 use Rattle.plane.specs.declared.Point.{Point}
 use Rattle.plane.specs.declared.Vector.{Vector}
-use Rattle.plane.specs.Point.{Proper, whole, _⇢_, Same, NotFarther, Nearer}
+use Rattle.plane.specs.Point.{Proper, whole, _⇢_, Same}
 use Rattle.plane.specs.Vector.{_⇀_, cross, dot}
 use Rattle.plane.proofs.Algebra.{VecE, O, vec, crossE, dotE, _⇀E_}
 
@@ -41,6 +46,16 @@ wholeE p = record { x = p .x; y = p .y; lower = lit (pos 1) }
 infix 60 _⇢E_
 abbrev pub _⇢E_ : PointE → PointE → VecE
 p ⇢E q = record { x = q .x ⊗ p .lower ⊖ p .x ⊗ q .lower; y = q .y ⊗ p .lower ⊖ p .y ⊗ q .lower }
+
+-- |v - y|² is dot (y ⇢ v) (y ⇢ v) over the square of both lower numbers, of which v's stands on both sides
+abbrev farness : Point → Point → Point → ℤ
+farness v y z = dot (y ⇢ v) (y ⇢ v) *ℤ (pos (z .lower) *ℤ pos (z .lower))
+
+abbrev pub NotFarther : Point → Point → Point → Type 0
+NotFarther v y z = farness v y z ≤ℤ farness v z y
+
+abbrev pub Nearer : Point → Point → Point → Type 0
+Nearer v y z = farness v y z <ℤ farness v z y
 
 abbrev farnessE : PointE → PointE → PointE → Expr
 farnessE v y z = dotE (y ⇢E v) (y ⇢E v) ⊗ (z .lower ⊗ z .lower)

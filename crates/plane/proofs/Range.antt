@@ -1,6 +1,6 @@
 -- How large differences and products are.
 --     span-⇀, span-difference     the vector between two points in range is within reach
---     atMost-side                 document 01: a side number of points in range is at most 2,048,000,000 in size
+--     atMost-side                 rule 1.8: a side number of points in range is at most 2,048,000,000 in size
 --     square-fits                 so its square fits 64 bits
 use mathlib.Core.Path.{_≡_}
 use lib.IntN.{_*ℤ_}
@@ -9,7 +9,8 @@ use mir.Val.{SFits}
 use Rattle.integers.specs.Size.{AtMost}
 use Rattle.integers.proofs.Machine.{atMost--, value, times, fits}
 use Rattle.plane.proofs.Arithmetic.{cross-is}
-use Rattle.plane.specs.Range.{InRange, Span, reach, productLimit}
+use Rattle.plane.specs.Range.{InRange}
+use Rattle.plane.specs.code.Range.{Span, reach, productLimit}
 use Rattle.plane.specs.Vector.{_⇀_, side}
 use Rattle.plane.specs.declared.Corner.{Corner}
 use Rattle.plane.specs.declared.Vector.{Vector}

@@ -13,8 +13,10 @@ use Rattle.integers.proofs.Order.{ltZ-true, <ℤ-ltZ}
 use Rattle.integers.proofs.Reflect.{test-and, test-leb, test-eqZ}
 use Rattle.plane.specs.declared.Corner.{Corner}
 use Rattle.plane.specs.declared.Vector.{Vector}
-use Rattle.plane.specs.Range.{InRange, isCoordinate, inRange, limit}
-use Rattle.plane.specs.Vector.{_⇀_, cross, isLeft, isRight, same}
+use Rattle.plane.specs.Range.{InRange, limit}
+use Rattle.plane.specs.code.Range.{isCoordinate, inRange}
+use Rattle.plane.specs.Vector.{_⇀_, cross}
+use Rattle.plane.specs.code.Tests.{isLeft, isRight, same}
 
 in-limit : (z : ℤ) → (isCoordinate z ≡ true) ↔ AtMost limit z
 in-limit z = (λ e. record { size = test-leb (natAbs z) limit .0 e }, λ h. test-leb (natAbs z) limit .1 (h .size))

@@ -1,7 +1,4 @@
--- Document 01: the direction of an edge, by whole numbers.
---     isFirstHalf      a vector is in the first half turn, counterclockwise from the positive x axis, else in the second
---     isBefore         the direction of a vector comes before that of another
---     sameDirection    the two directions are equal
+-- Rule 5.1, the direction of an edge, by whole numbers.
 use mathlib.Core.Bool.{Bool, true, false, not, _&&_, _||_}
 use lib.IntN.{pos}
 use lib.Signed.{ltZ}
@@ -9,10 +6,11 @@ use Rattle.integers.specs.Equal.{eqZ}
 use Rattle.plane.specs.Vector.{cross}
 use Rattle.plane.specs.declared.Vector.{Vector}
 
--- dy is positive, or dy is zero and dx positive
+-- in the first half turn, counterclockwise from the positive x axis: dy is positive, or dy is zero and dx positive
 unfoldable pub isFirstHalf : Vector → Bool
 isFirstHalf d = ltZ (pos 0) (d .y) || (eqZ (d .y) (pos 0) && ltZ (pos 0) (d .x))
 
+-- two tests give the same: both vectors are in the first half turn, or both in the second
 abbrev pub sameHalf : Bool → Bool → Bool
 sameHalf true t = t
 sameHalf false t = not t
@@ -22,6 +20,6 @@ unfoldable pub isBefore : Vector → Vector → Bool
 isBefore d e =
     (isFirstHalf d && not (isFirstHalf e)) || (sameHalf (isFirstHalf d) (isFirstHalf e) && ltZ (pos 0) (cross d e))
 
--- and the directions are equal when it is zero
+-- two directions are equal when the vectors are in the same half and dx × ey - dy × ex is zero
 unfoldable pub sameDirection : Vector → Vector → Bool
 sameDirection d e = sameHalf (isFirstHalf d) (isFirstHalf e) && eqZ (cross d e) (pos 0)

@@ -3,3 +3,4 @@ pub mod Vector
 pub mod Range
 pub mod Point
 pub mod Direction
+pub mod code

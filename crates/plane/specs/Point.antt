@@ -1,42 +1,40 @@
--- All points of the plane that document 01 speaks of: those at X/D and Y/D with whole numbers X, Y and D, D at least 1.
---     Proper                the lower number D is at least 1
---     whole                 a point with whole coordinates, D = 1
---     _⇢_                   the vector from a point to another, times both lower numbers
---     Same                  two proper points are the same point, whatever their lower numbers
---     farness               the squared distance from v to y, on the scale that compares it with that from v to z
---     NotFarther, Nearer    y is not farther from v than z; y is nearer to v than z
--- A length is squared and an order multiplied out, so that all stays in whole numbers.
+-- All points of the plane that rule 1.6 speaks of: those at X/D and Y/D with whole numbers X, Y and D, D at least
+-- 1. Here these numbers are unbounded, whatever types the code has for them. Lengths are squared, and all stays in
+-- whole numbers.
+use Prim.Native.Nat.{_*_}
 use mathlib.Core.Path.{_≡_}
-use lib.IntN.{ℤ, pos, _-ℤ_, _*ℤ_}
-use lib.Signed.{_≤ℤ_, _<ℤ_}
+use lib.IntN.{pos, natAbs, _-ℤ_, _*ℤ_}
+use lib.Signed.{_<ℤ_}
+use Rattle.integers.specs.declared.fraction.Fraction.{Fraction}
 use Rattle.plane.specs.Vector.{dot}
 use Rattle.plane.specs.declared.Corner.{Corner}
 use Rattle.plane.specs.declared.Point.{Point}
 use Rattle.plane.specs.declared.Vector.{Vector}
 
+-- the lower number D is at least 1
 abbrev pub Proper : Point → Type 0
 Proper z = pos 0 <ℤ pos (z .lower)
 
+-- a point with whole coordinates: D is 1
 abbrev pub whole : Corner → Point
 whole p = record { x = p .x; y = p .y; lower = 1 }
 
 infix 60 _⇢_
+-- the vector from p to q, times both lower numbers
 unfoldable pub _⇢_ : Point → Point → Vector
 p ⇢ q = record {
   x = q .x *ℤ pos (p .lower) -ℤ p .x *ℤ pos (q .lower);
   y = q .y *ℤ pos (p .lower) -ℤ p .y *ℤ pos (q .lower);
 }
 
+-- two proper points are the same point, whatever their lower numbers
 pub record Same (y z : Point) : Type 0 where
   pub same-x : y .x *ℤ pos (z .lower) ≡ z .x *ℤ pos (y .lower)
   pub same-y : y .y *ℤ pos (z .lower) ≡ z .y *ℤ pos (y .lower)
 
--- |v - y|² is dot (y ⇢ v) (y ⇢ v) over the square of both lower numbers, of which v's stands on both sides
-abbrev pub farness : Point → Point → Point → ℤ
-farness v y z = dot (y ⇢ v) (y ⇢ v) *ℤ (pos (z .lower) *ℤ pos (z .lower))
-
-abbrev pub NotFarther : Point → Point → Point → Type 0
-NotFarther v y z = farness v y z ≤ℤ farness v z y
-
-abbrev pub Nearer : Point → Point → Point → Type 0
-Nearer v y z = farness v y z <ℤ farness v z y
+-- |p - q|², for proper points
+abbrev pub squaredDistance : Point → Point → Fraction
+squaredDistance p q = record {
+  upper = natAbs (dot (q ⇢ p) (q ⇢ p));
+  lower = (q .lower * p .lower) * (q .lower * p .lower);
+}

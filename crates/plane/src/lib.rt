@@ -1,9 +1,11 @@
 // Points and vectors of the plane with whole coordinates, points with fractions, and the side number with its signs.
 ghost use mathlib.Core.Path.{_≡_};
-ghost use Rattle.plane.specs.Vector.{_⇀_, cross, dot, isLeft, isRight, same};
+ghost use Rattle.plane.specs.Vector.{_⇀_, cross, dot};
+ghost use Rattle.plane.specs.code.Tests.{isLeft, isRight, same};
 ghost use Rattle.integers.specs.Equal.{eqZ};
 ghost use Rattle.plane.specs.Point.{whole};
-ghost use Rattle.plane.specs.Range.{InRange, Span, reach, isCoordinate, inRange};
+ghost use Rattle.plane.specs.Range.{InRange};
+ghost use Rattle.plane.specs.code.Range.{Span, reach, isCoordinate, inRange};
 
 // A point with whole coordinates; a corner of an outline.
 pub struct Corner {
@@ -49,7 +51,7 @@ pub fn difference(p: Corner, q: Corner) -> Vector
     }
 }
 
-// The cross product. Document 01: the side number of a point against an edge is that of the edge's differences and
+// The cross product. Rule 1.3: the side number of a point against an edge is that of the edge's differences and
 // those from the edge's start to the point. Of the differences of two edges it is the number whose sign orders their
 // directions.
 pub fn cross(a: Vector, b: Vector) -> i64

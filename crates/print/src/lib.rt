@@ -1,7 +1,7 @@
 // Text and numbers on standard output.
 use libc::STDOUT_FILENO;
 use text::output::Text;
-ghost use Rattle.text.specs.Output.{IsText};
+ghost use Rattle.text.specs.code.Output.{IsText};
 
 pub fn text(t: &[u8]) {
     io::write_all(STDOUT_FILENO, t);

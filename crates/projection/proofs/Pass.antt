@@ -19,10 +19,14 @@ use lib.ListN.{length}
 use Rattle.integers.proofs.Order.{<ℤ-ltZ}
 use Rattle.plane.specs.declared.Corner.{Corner}
 use Rattle.plane.specs.Range.{InRange}
-use Rattle.plane.specs.Vector.{_⇀_, isRight}
+use Rattle.plane.specs.Vector.{_⇀_}
+use Rattle.plane.specs.code.Tests.{isRight}
 use Rattle.outline.specs.declared.Outline.{Outline}
-use Rattle.outline.specs.Convex.{Polygon, Accepted, IsOutline}
-use Rattle.outline.specs.Corners.{corner, next, previous, cornersOf}
+use Rattle.outline.specs.code.Polygon.{Polygon}
+use Rattle.outline.specs.Convex.{Accepted}
+use Rattle.outline.specs.code.Held.{IsOutline}
+use Rattle.outline.specs.Corners.{corner, next, previous}
+use Rattle.outline.specs.code.Held.{cornersOf}
 use Rattle.outline.proofs.EdgeLaws.{accepted-polygon}
 use Rattle.outline.proofs.CornersLaws.{before-below, after-below, previous-below, next-previous, previous-next}
 use Rattle.outline.proofs.HeldLaws.{cornersOf-corner}
@@ -31,7 +35,7 @@ use Rattle.nearest.specs.declared.Feature.the-variants as Feature
 use Rattle.projection.specs.declared.local.Part.{Part}
 use Rattle.projection.specs.declared.local.Part.the-variants.{None, Start, Between, End}
 use Rattle.nearest.specs.Feature.{values, withinValues, cornerValues, edgeValues}
-use Rattle.nearest.specs.Local.{footIsBetween, cornerIsNearest, edgeIsNearest, isCorner, Tested, feature, nearest}
+use Rattle.nearest.specs.code.Local.{footIsBetween, cornerIsNearest, edgeIsNearest, isCorner, Tested, feature, nearest}
 use Rattle.projection.specs.Part.{nearestPart}
 use Rattle.nearest.proofs.AnswerLaws.{feature-tested, feature-iff}
 use Rattle.nearest.proofs.LocalLaws.{corner-visible}

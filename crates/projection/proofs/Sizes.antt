@@ -12,7 +12,7 @@ use mir.Val.{Fits, SFits}
 use Rattle.integers.proofs.Machine.{i64, Exact, stored, times, fits, size-fits}
 use Rattle.integers.proofs.Order.{square-nonneg}
 use Rattle.plane.specs.declared.Vector.{Vector}
-use Rattle.plane.specs.Range.{Span, reach, productLimit}
+use Rattle.plane.specs.code.Range.{Span, reach, productLimit}
 use Rattle.plane.specs.Vector.{cross, dot}
 use Rattle.plane.proofs.Algebra.{dot-self}
 use Rattle.plane.proofs.Arithmetic.{cross-local, dot-local}

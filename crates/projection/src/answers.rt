@@ -8,7 +8,8 @@ use plane::Vector;
 ghost use mathlib.Core.Path.{_≡_};
 ghost use lib.IntN.{_+ℤ_, _*ℤ_};
 ghost use Rattle.integers.specs.Size.{AtMost};
-ghost use Rattle.plane.specs.Range.{InRange, Span, limit, reach, productLimit};
+ghost use Rattle.plane.specs.Range.{InRange, limit};
+ghost use Rattle.plane.specs.code.Range.{Span, reach, productLimit};
 ghost use Rattle.nearest.specs.Feature.{withinValues, cornerValues, edgeGap, footOn, edgeValues};
 
 // v is in the piece.
@@ -39,8 +40,8 @@ pub fn at_corner(v: Corner, i: usize, c: Corner) -> NearestPoint
     }
 }
 
-// The gap on an edge: the square of the side number over the edge's squared length. `run` has the edge's differences and `to` those
-// from the edge's start to the point.
+// The gap on an edge: the square of the side number over the edge's squared length. `run` has the edge's
+// differences and `to` those from the edge's start to the point.
 fn edge_gap(run: Vector, to: Vector) -> Fraction
     requires { ⌜ Span reach run ⌝ }
     requires { ⌜ Span reach to ⌝ }
@@ -54,7 +55,8 @@ fn edge_gap(run: Vector, to: Vector) -> Fraction
     }
 }
 
-// A coordinate of the foot, times the edge's squared length: of the edge it has `start` and `run`, and the foot lies `along` it.
+// A coordinate of the foot, times the edge's squared length: of the edge it has `start` and `run`, and the foot
+// lies `along` it.
 fn coordinate(length: i64, start: i32, along: i64, run: i64) -> i64
     requires { ⌜ AtMost productLimit length ⌝ }
     requires { ⌜ AtMost limit start ⌝ }

@@ -9,12 +9,13 @@ use plane::Corner;
 use reading::corners;
 ghost use mathlib.Core.Path.{_≡_};
 ghost use Rattle.plane.specs.Range.{InRange};
-ghost use Rattle.outline.specs.Convex.{IsOutline};
-ghost use Rattle.outline.specs.Corners.{cornersOf};
-ghost use Rattle.nearest.specs.Local.{nearest};
+ghost use Rattle.outline.specs.code.Held.{IsOutline};
+ghost use Rattle.outline.specs.code.Held.{cornersOf};
+ghost use Rattle.nearest.specs.code.Local.{nearest};
 
-// The nearest point of an outline to v: one pass over the edges. v is in the piece if it is strictly right of none, and where it is right
-// of one, some edge that it is right of has the nearest point at its start, between its ends or at its end (`proofs/Pass.antt`).
+// The nearest point of an outline to v: one pass over the edges. v is in the piece if it is strictly right of none,
+// and where it is right of one, some edge that it is right of has the nearest point at its start, between its ends
+// or at its end (`proofs/Pass.antt`).
 pub fn nearest(o: Outline, v: Corner) -> NearestPoint
     requires { ⌜ IsOutline o ⌝ }
     requires { ⌜ InRange v ⌝ }

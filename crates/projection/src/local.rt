@@ -2,7 +2,7 @@
 use plane::Corner;
 ghost use mathlib.Core.Path.{_≡_};
 ghost use Rattle.plane.specs.Range.{InRange};
-ghost use Rattle.nearest.specs.Local.{footIsBetween, cornerIsNearest};
+ghost use Rattle.nearest.specs.code.Local.{footIsBetween, cornerIsNearest};
 ghost use Rattle.projection.specs.Part.{nearestPart};
 
 // A part of an edge: none, its start, strictly between its ends, its end.
@@ -46,8 +46,9 @@ fn corner_is_nearest(v: Corner, before: Corner, c: Corner, after: Corner) -> boo
     !plane::same(c, v)
 }
 
-// The part of the edge from p to q, with the corners before and after it, that is the nearest feature. It is none if v is not strictly
-// right of the edge: the sign of a side number decides that, and for most edges it is the only test.
+// The part of the edge from p to q, with the corners before and after it, that is the nearest feature. It is none
+// if v is not strictly right of the edge: the sign of a side number decides that, and for most edges it is the only
+// test.
 pub fn nearest_part(v: Corner, before: Corner, p: Corner, q: Corner, after: Corner) -> Part
     requires { ⌜ InRange v ⌝ }
     requires { ⌜ InRange before ⌝ }

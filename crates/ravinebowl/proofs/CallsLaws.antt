@@ -18,22 +18,27 @@ use Rattle.plane.specs.declared.Corner.{Corner}
 use Rattle.outline.specs.declared.Refusal.{Refusal}
 use Rattle.outline.specs.declared.Verdict.{Verdict}
 use Rattle.outline.specs.declared.Verdict.the-variants as Verdict
-use Rattle.outline.specs.Checks.{ifTaken}
-use Rattle.edit.specs.Removal.{removalConditions, removalVerdict, listAfter}
+use Rattle.outline.specs.code.Checks.{ifTaken}
+use Rattle.edit.specs.Removal.{removalConditions}
+use Rattle.edit.specs.code.Removal.{removalVerdict, listAfter}
 use Rattle.edit.proofs.Removal.{removal-refused}
 use Rattle.nearest.specs.declared.NearestAnswer.{NearestAnswer}
 use Rattle.nearest.specs.declared.NearestAnswer.the-variants as NearestAnswer
-use Rattle.nearest.specs.Call.{nearestConditions, nearestAnswer}
+use Rattle.nearest.specs.Call.{nearestConditions}
+use Rattle.nearest.specs.code.Call.{nearestAnswer}
 use Rattle.nearest.proofs.CallLaws.{nearest-refuses}
 use Rattle.hausdorff.specs.declared.Comparison.{Comparison}
 use Rattle.hausdorff.specs.declared.Comparison.the-variants.{Refused, Reported}
-use Rattle.hausdorff.specs.Call.{pairConditions, comparison}
+use Rattle.hausdorff.specs.Call.{pairConditions}
+use Rattle.hausdorff.specs.code.Call.{comparison}
 use Rattle.hausdorff.proofs.CallLaws.{compare-refuses}
 use Rattle.encoding.specs.declared.status.Status.{Status}
 use Rattle.encoding.specs.Status.{answered, wrongResultLength, refusedStatus}
 use Rattle.encoding.proofs.StatusLaws.{refused-code}
-use Rattle.ravinebowl.specs.Calls.{compareLength, statusOfComparison, listOfComparison, compareStatus, compareList}
-use Rattle.ravinebowl.specs.Calls.{nearestLength, statusOfNearest, listOfNearest, nearestStatus, nearestList, statusOfVerdict, removalStatus}
+use Rattle.ravinebowl.specs.Calls.{compareLength, statusOfComparison, listOfComparison, compareStatus}
+use Rattle.ravinebowl.specs.Calls.{compareList}
+use Rattle.ravinebowl.specs.Calls.{nearestLength, statusOfNearest, listOfNearest, nearestStatus, nearestList}
+use Rattle.ravinebowl.specs.Calls.{statusOfVerdict, removalStatus}
 
 abbrev pub NotAnswered : Status → Type 0
 NotAnswered status = status .code ≢ answered .code

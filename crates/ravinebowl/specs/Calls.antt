@@ -1,11 +1,4 @@
--- What each call returns, and what it leaves in the list that it may write.
---     nearestLength, compareLength            how long a result list must be
---     ifOfLength                              one value where a list has the right length, another where not
---     statusOfComparison, listOfComparison    by what comparing answers: the status, and the result list, given what it held before
---     compareStatus, compareList              of `ravinebowl_compare`
---     statusOfNearest, listOfNearest          the same for the nearest point
---     nearestStatus, nearestList              of `ravinebowl_nearest_point`
---     statusOfVerdict, removalStatus          of `ravinebowl_remove_corner`; its list is `listAfter` of `edit/specs/Removal.antt`
+-- Rules 9.1 to 9.8: what each call returns, and what it leaves in the list that it may write.
 use Prim.Native.Nat.{ℕ}
 use mathlib.Core.Bool.{cond}
 use mathlib.Core.List.{List}
@@ -14,60 +7,70 @@ use lib.IntN.{ℤ}
 use lib.ListN.{length}
 use Rattle.outline.specs.declared.Verdict.{Verdict}
 use Rattle.outline.specs.declared.Verdict.the-variants as Verdict
-use Rattle.edit.specs.Removal.{removalVerdict}
+use Rattle.edit.specs.code.Removal.{removalVerdict}
 use Rattle.nearest.specs.declared.NearestAnswer.{NearestAnswer}
 use Rattle.nearest.specs.declared.NearestAnswer.the-variants as NearestAnswer
-use Rattle.nearest.specs.Call.{nearestAnswer}
+use Rattle.nearest.specs.code.Call.{nearestAnswer}
 use Rattle.hausdorff.specs.declared.Comparison.{Comparison}
 use Rattle.hausdorff.specs.declared.Comparison.the-variants.{Refused, Reported}
-use Rattle.hausdorff.specs.Call.{comparison}
+use Rattle.hausdorff.specs.code.Call.{comparison}
 use Rattle.encoding.specs.declared.status.Status.{Status}
 use Rattle.encoding.specs.Status.{answered, wrongResultLength, refusedStatus}
 use Rattle.encoding.specs.Results.{ofNearest, ofReport}
 
+-- how long the result list of the nearest point must be (rule 9.4)
 abbrev pub nearestLength : ℕ
 nearestLength = 7
 
+-- how long the result list of comparing must be (rule 9.5)
 abbrev pub compareLength : ℕ
 compareLength = 14
 
--- the length is judged before anything else
+-- one value where the result list has the right length, another where not: that is judged before anything else
 abbrev pub ifOfLength : {X : Type 0} → List ℤ → ℕ → X → X → X
 ifOfLength result long right wrong = cond (eqb (length result) long) right wrong
 
--- being spent is no refusal
+-- the status, by what comparing answers; being spent is no refusal
 abbrev pub statusOfComparison : Comparison → Status
 statusOfComparison (Refused r) = refusedStatus r
 statusOfComparison (Reported q) = answered
 
--- a refused call writes to no list
+-- the result list after that, given what it held before; a refused call writes to no list (rule 9.8)
 abbrev pub listOfComparison : Comparison → List ℤ → List ℤ
 listOfComparison (Refused r) before = before
 listOfComparison (Reported q) before = ofReport q
 
+-- the status that `ravinebowl_compare` returns
 unfoldable pub compareStatus : List ℤ → List ℤ → ℕ → List ℤ → Status
 compareStatus s t allowance result = ifOfLength result compareLength (statusOfComparison (comparison s t allowance)) wrongResultLength
 
+-- what it leaves in the result list
 unfoldable pub compareList : List ℤ → List ℤ → ℕ → List ℤ → List ℤ
 compareList s t allowance result = ifOfLength result compareLength (listOfComparison (comparison s t allowance) result) result
 
+-- the status, by what the call for the nearest point answers
 abbrev pub statusOfNearest : NearestAnswer → Status
 statusOfNearest (NearestAnswer.Refused r) = refusedStatus r
 statusOfNearest (NearestAnswer.Found a) = answered
 
+-- the result list after that, given what it held before
 abbrev pub listOfNearest : NearestAnswer → List ℤ → List ℤ
 listOfNearest (NearestAnswer.Refused r) before = before
 listOfNearest (NearestAnswer.Found a) before = ofNearest a
 
+-- the status that `ravinebowl_nearest_point` returns
 unfoldable pub nearestStatus : ℤ → ℤ → List ℤ → List ℤ → Status
 nearestStatus x y s result = ifOfLength result nearestLength (statusOfNearest (nearestAnswer (record { x = x; y = y }) s)) wrongResultLength
 
+-- what it leaves in the result list
 unfoldable pub nearestList : ℤ → ℤ → List ℤ → List ℤ → List ℤ
 nearestList x y s result = ifOfLength result nearestLength (listOfNearest (nearestAnswer (record { x = x; y = y }) s) result) result
 
+-- the status, by what removing a corner answers
 abbrev pub statusOfVerdict : Verdict → Status
 statusOfVerdict Verdict.Taken = answered
 statusOfVerdict (Verdict.Refused r) = refusedStatus r
 
+-- the status that `ravinebowl_remove_corner` returns; its list is `listAfter` of `edit/specs/code/Removal.antt`
 abbrev pub removalStatus : List ℤ → ℕ → List ℤ → Status
 removalStatus s k out = statusOfVerdict (removalVerdict s k out)

@@ -1,5 +1,5 @@
-// The calls as C functions, over lists that the caller lends. None has a `requires`: each takes any lists. A refusal is a status, and a
-// refused call writes to no list. `embed/ravinebowl.h` declares them for C.
+// The calls as C functions, over lists that the caller lends. None has a `requires`: each takes any lists. A
+// refusal is a status, and a refused call writes to no list. `embed/ravinebowl.h` declares them for C.
 use encoding::results;
 use encoding::results::COMPARE_LENGTH;
 use encoding::results::NEAREST_LENGTH;
@@ -12,7 +12,7 @@ use plane::Corner;
 ghost use mathlib.Core.Path.{_≡_};
 ghost use lib.ListN.{length};
 ghost use Rattle.ravinebowl.specs.Calls.{compareStatus, compareList, nearestStatus, nearestList, removalStatus};
-ghost use Rattle.edit.specs.Removal.{listAfter};
+ghost use Rattle.edit.specs.code.Removal.{listAfter};
 
 // Copies numbers to a list of the same length.
 fn write(numbers: &[i64], list: &mut [i64])
@@ -26,8 +26,9 @@ fn write(numbers: &[i64], list: &mut [i64])
     }
 }
 
-// Compares the outlines that the lists `a` and `b` give, in at most `allowance` steps, and writes 14 numbers to `result`.
-// A `result` of another length is judged first; then refusals 1 to 6 for A, then for B. Being spent is no refusal.
+// Compares the outlines that the lists `a` and `b` give, in at most `allowance` steps, and writes 14 numbers to
+// `result`. A `result` of another length is judged first; then refusals 1 to 6 for A, then for B. Being spent is no
+// refusal.
 #[no_mangle]
 pub extern "C" fn ravinebowl_compare(
     a: &[i32],
@@ -50,8 +51,8 @@ pub extern "C" fn ravinebowl_compare(
     }
 }
 
-// Finds the nearest point, to the point (x, y), of the outline that the list `outline` gives, and writes 7 numbers to `result`.
-// A `result` of another length is judged first; then refusals 1 to 6 for the outline, then 7.
+// Finds the nearest point, to the point (x, y), of the outline that the list `outline` gives, and writes 7 numbers
+// to `result`. A `result` of another length is judged first; then refusals 1 to 6 for the outline, then 7.
 #[no_mangle]
 pub extern "C" fn ravinebowl_nearest_point(
     x: i32,
@@ -74,8 +75,8 @@ pub extern "C" fn ravinebowl_nearest_point(
     }
 }
 
-// Removes a corner from the outline that the list `outline` gives, and writes the other corners to `out`, in their order.
-// Refusals 1 to 6, 8, 2 and 9, in this order; 9 is for an `out` of the wrong length.
+// Removes a corner from the outline that the list `outline` gives, and writes the other corners to `out`, in their
+// order. Refusals 1 to 6, 8, 2 and 9, in this order; 9 is for an `out` of the wrong length.
 #[no_mangle]
 pub extern "C" fn ravinebowl_remove_corner(
     outline: &[i32],

@@ -1,18 +1,15 @@
--- An edge, taken out of a list of corners once for all corners that are tested against it.
---     edgeOf         the edge with a number
---     isNotLeftOf    corner c, at v, is no end of the edge and not strictly left of it
--- For the code alone: `isNotLeft` in `outline/specs/Reading.antt` is the same test of a list and two numbers.
+-- An edge, taken out of a list of corners once for all corners that are tested against it. For the code alone.
 use Prim.Native.Nat.{ℕ}
 use mathlib.Core.Bool.{Bool, not, _&&_}
 use mathlib.Core.List.{List}
 use lib.Dec.{eqb}
 use lib.ListN.{length}
 use Rattle.plane.specs.declared.Corner.{Corner}
-use Rattle.plane.specs.Vector.{isLeft}
+use Rattle.plane.specs.code.Tests.{isLeft}
 use Rattle.reading.specs.declared.checks.Edge.{Edge}
 use Rattle.outline.specs.Corners.{corner, next, edge}
 
--- document 01: edge e runs from corner e to the following one
+-- edge e: it runs from corner e to the following one
 abbrev pub edgeOf : List Corner → ℕ → Edge
 edgeOf cs e = record {
   start = e;
@@ -21,6 +18,8 @@ edgeOf cs e = record {
   run = edge cs e;
 }
 
+-- corner c, at v, is no end of the edge and not strictly left of it. `isNotLeft` in `outline/specs/code/Reading.antt`
+-- is the same test of a list and two numbers
 abbrev pub isNotLeftOf : Edge → ℕ → Corner → Bool
 isNotLeftOf edge c v =
     not (eqb c (edge .start))

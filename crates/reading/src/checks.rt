@@ -1,5 +1,5 @@
-// The checks of a list, in document 01's order. Each names the corner or edge that fails it first; `whose` is the side
-// that a refusal names.
+// The checks of a list, in the order of rule 2.4. Each names the corner or edge that fails it first; `whose` is the
+// side that a refusal names.
 use crate::corners::corner;
 use crate::corners::count;
 use crate::corners::next;
@@ -14,14 +14,15 @@ use plane::Vector;
 ghost use mathlib.Core.Path.{_≡_};
 ghost use Prim.Native.Nat.{_<_};
 ghost use lib.ListN.{length};
-ghost use Rattle.plane.specs.Range.{InRange, Span, reach};
-ghost use Rattle.outline.specs.Checks.{first};
+ghost use Rattle.plane.specs.Range.{InRange};
+ghost use Rattle.plane.specs.code.Range.{Span, reach};
+ghost use Rattle.outline.specs.code.Checks.{first};
 ghost use Rattle.outline.specs.Convex.{AllInRange};
 ghost use Rattle.outline.specs.Corners.{corners};
 ghost use Rattle.reading.specs.Edge.{edgeOf, isNotLeftOf};
-ghost use Rattle.outline.specs.Turns.{keepsLeft, isConvex};
-ghost use Rattle.outline.specs.Reading.{isOutOfRange, isRepeated};
-ghost use Rattle.outline.specs.Reading.{lengthChecks, checkRange, checkRepeated, checkEdge, checkConvex, check};
+ghost use Rattle.outline.specs.code.Turns.{keepsLeft, isConvex};
+ghost use Rattle.outline.specs.code.Reading.{isOutOfRange, isRepeated};
+ghost use Rattle.outline.specs.code.Reading.{lengthChecks, checkRange, checkRepeated, checkEdge, checkConvex, check};
 
 // The numbers of the refusals.
 const ODD_LENGTH: u32 = 1;
@@ -172,7 +173,8 @@ fn check_edges(s: &[i32], whose: RefusedSide) -> Verdict
     Verdict::Taken
 }
 
-// Whether v, the corner after p and q, is strictly left of edge 0, which starts at `from`, of the line from there to q, and of p to q.
+// Whether v, the corner after p and q, is strictly left of edge 0, which starts at `from`, of the line from there
+// to q, and of p to q.
 fn keeps_left(from: Corner, run: Vector, p: Corner, q: Corner, v: Corner) -> bool
     requires { ⌜ Span reach run ⌝ }
     requires { ⌜ InRange from ⌝ }

@@ -7,7 +7,7 @@ use outline::Reading;
 use outline::RefusedSide;
 use outline::Verdict;
 ghost use mathlib.Core.Path.{_≡_};
-ghost use Rattle.outline.specs.Reading.{reading};
+ghost use Rattle.outline.specs.code.Reading.{reading};
 
 // Reads the outline that a list gives. A refusal names the side `whose`.
 pub fn read(s: &[i32], whose: RefusedSide) -> Reading

@@ -1,4 +1,4 @@
--- Where the code begins is where document 01's sweep does.
+-- Where the code begins is where the sweep of rule 5.4 does.
 --     lowest-unique    an outline has one lowest, then leftmost corner
 --     begins-after     a state with these support corners, all edges to come and no worst is the sweep after no steps
 -- The search for such a corner that `lowest` makes:
@@ -22,15 +22,17 @@ use Rattle.integers.proofs.Reflect.{test-eqZ, test-false}
 use Rattle.plane.specs.declared.Corner.{Corner}
 use Rattle.plane.proofs.Algebra.{side-start}
 use Rattle.outline.specs.declared.Outline.{Outline}
-use Rattle.outline.specs.Convex.{Polygon}
-use Rattle.outline.specs.Corners.{corner, next, cornersOf}
+use Rattle.outline.specs.code.Polygon.{Polygon}
+use Rattle.outline.specs.Corners.{corner, next}
+use Rattle.outline.specs.code.Held.{cornersOf}
 use Rattle.outline.proofs.CornersLaws.{next-next-other}
 use Rattle.outline.proofs.HeldLaws.{cornersOf-corner}
 use Rattle.outline.specs.declared.Side.{Side}
 use Rattle.hausdorff.specs.declared.WorstSoFar.the-variants.{None}
-use Rattle.hausdorff.specs.Pair.{Pair, Polygons}
-use Rattle.hausdorff.specs.Sweep.{begin, steps}
-use Rattle.hausdorff.specs.Lowest.{LowestLeftmost}
+use Rattle.hausdorff.specs.Pair.{Pair}
+use Rattle.hausdorff.specs.code.Pair.{Polygons}
+use Rattle.hausdorff.specs.code.Sweep.{worstAfter}
+use Rattle.hausdorff.specs.code.Lowest.{LowestLeftmost}
 use Rattle.hausdorff.proofs.LowestLaws.{begins-lowest}
 use Rattle.sweep.specs.declared.State.{State}
 use Rattle.sweep.specs.State.{sideState, IsAfter, isLower}
@@ -84,7 +86,7 @@ module _ {cs : List Corner} (polygon : Polygon cs) where
 -- the sweep too begins at the lowest, then leftmost corners
 pub begins-after : (pair : Pair) → Polygons pair → (state : State) → ((s : Side) → LowestLeftmost (pair s) (sideState state s .support))
     → ((s : Side) → sideState state s .remaining ≡ length (pair s)) → ((s : Side) → sideState state s .worst ≡ None) → IsAfter pair 0 state
-unfolding begin steps
+unfolding worstAfter
 begins-after pair polygons state lowest all none = record {
   support = λ s. lowest-unique (polygons s) _ _ (lowest s) (begins-lowest pair polygons s);
   remaining = λ s. all s ∙ sym (begin-to-come pair polygons s);

@@ -1,12 +1,14 @@
 -- Which edge is next: what the code chooses is the next edge of the angular order.
---     isNextB          B's edge is next: A has no edge to come, or both have some and B's first to come is strictly right of A's
+--     isNextB          B's edge is next: A has no edge to come, or both have some and B's first to come is strictly
+--                      right of A's
 --     nextSide         the side of the next edge
 --     next-edge        the next edge of the order is that side's, and starts at its support corner
 --     next-to-come     that side has an edge to come
 --     begin-to-come    before step 1 all edges of a side are to come
 --     step-to-come     after a step one less of the side whose edge was next, and as many of the other
--- The directions of A's and of B's first edge to come are less than half a turn apart, so the sign of their side number orders them: each
--- outline turns by less than half a turn at a corner, and the edge before lies behind both.
+-- The directions of A's and of B's first edge to come are less than half a turn apart, so the sign of their side
+-- number orders them: each outline turns by less than half a turn at a corner, and the edge before lies behind
+-- both.
 use Prim.Native.Nat.{ℕ, zero, suc, _+_, _-_, _<_}
 use native.Mathlib.Omega.{arith}
 use mathlib.Core.Path.{_≡_, refl, sym, _∙_, subst}
@@ -27,16 +29,20 @@ use Rattle.plane.specs.declared.Vector.{Vector}
 use Rattle.plane.specs.Vector.{cross, dot}
 use Rattle.plane.proofs.Algebra.{O, vec, crossE, dotE, components, cross-back}
 use Rattle.plane.proofs.Halves.{NonZero}
-use Rattle.plane.proofs.DirectionLaws.{Before, Along, Apart, along?, along-iff, before-asym, before-irrefl, cross-between, cross-first}
+use Rattle.plane.proofs.DirectionLaws.{Before, Along, Apart, along?, along-iff, before-asym, before-irrefl}
+use Rattle.plane.proofs.DirectionLaws.{cross-between, cross-first}
 use Rattle.outline.specs.Corners.{previous, edge}
 use Rattle.outline.proofs.CornersLaws.{next-other, previous-below, next-previous}
 use Rattle.nearest.proofs.Support.{turns-on}
 use Rattle.outline.specs.declared.Side.{Side}
 use Rattle.outline.specs.declared.Side.the-variants.{A, B}
-use Rattle.hausdorff.specs.Pair.{Pair, Polygons, sameSide, edgeCount, stepCount}
-use Rattle.lists.specs.Lists.{headOr}
-use Rattle.hausdorff.specs.AngularOrder.{PairEdge, direction, edgesBelow, angularOrder, consIf, own}
-use Rattle.hausdorff.specs.Sweep.{begin, after}
+use Rattle.hausdorff.specs.Pair.{Pair, sameSide, stepCount}
+use Rattle.hausdorff.specs.code.Pair.{Polygons}
+use Rattle.lists.specs.Fold.{fold}
+use Rattle.lists.specs.code.Lists.{headOr}
+use Rattle.hausdorff.specs.AngularOrder.{PairEdge, direction, edgesBelow, angularOrder}
+use Rattle.hausdorff.specs.code.Own.{consIf, own}
+use Rattle.hausdorff.specs.Support.{passAll, supportAfter}
 use Rattle.hausdorff.proofs.OrderLaws.{Rounds, polygons-go-round, order-arranges, order-length, order-members}
 use Rattle.hausdorff.proofs.OrderLaws.{order-not-falling, order-ties, own-iff, own-append, own-members, own-rising}
 use Rattle.hausdorff.proofs.SweepLaws.{support-after}
@@ -45,7 +51,7 @@ use Rattle.sweep.specs.State.{toCome, nextIsB}
 abbrev pub isNextB : Pair → ℕ → Bool
 isNextB pair k =
     nextIsB (toCome pair k A) (toCome pair k B)
-    (cross (edge (pair A) (after pair k .support A)) (edge (pair B) (after pair k .support B)))
+    (cross (edge (pair A) (supportAfter pair k A)) (edge (pair B) (supportAfter pair k B)))
 
 abbrev pub nextSide : Pair → ℕ → Side
 nextSide pair k = cond (isNextB pair k) B A
@@ -67,7 +73,7 @@ count-arranged s (List·Permᴰ·trans arranged again) = count-arranged s arrang
 
 -- Of the n edges of a side that side has n.
 count-below : (s t : Side) (n : ℕ) → length (own s (edgesBelow t n)) ≡ cond (sameSide s t) n 0
-unfolding own edgesBelow
+unfolding own fold
 count-below s t zero = none (sameSide s t)
   where
     none : (b : Bool) → zero ≡ cond b 0 0
@@ -95,7 +101,8 @@ own-here e es = rw (same (e .side))
 
 -- ---- less than half a turn
 
--- y is left of p, and x comes before y and not before p where p comes before y. Then x lies from p to y, and y is left of x.
+-- y is left of p, and x comes before y and not before p where p comes before y. Then x lies from p to y, and y is
+-- left of x.
 left-of : (p x y : Vector) → NonZero p → NonZero x → pos 0 <ℤ cross p y → Apart p y → (Before p y → ¬ Before x p) → Before x y
     → pos 0 <ℤ cross x y
 unfolding cross dot
@@ -217,10 +224,11 @@ module _ (pair : Pair) (polygons : Polygons pair) where
   abbrev order : List PairEdge
   order = angularOrder pair
 
-  pub begin-to-come : (s : Side) → toCome pair 0 s ≡ edgeCount (pair s)
+  pub begin-to-come : (s : Side) → toCome pair 0 s ≡ length (pair s)
   begin-to-come s = count-arranged s (order-arranges pair) ∙ simp (own-append, length-append, count-below) (go s)
     where
-      go : (s : Side) → cond (sameSide s A) (edgeCount (pair A)) 0 + cond (sameSide s B) (edgeCount (pair B)) 0 ≡ edgeCount (pair s)
+      go : (s : Side)
+          → cond (sameSide s A) (length (pair A)) 0 + cond (sameSide s B) (length (pair B)) 0 ≡ length (pair s)
       go A = omega arith
       go B = omega arith
 
@@ -239,13 +247,15 @@ module _ (pair : Pair) (polygons : Polygons pair) where
       to-come : drop k order ≡ e ∷ drop (suc k) order
       to-come = drop-cons order k none in-order
 
-      supports : (s : Side) → after pair k .support s ≡ headOr (begin pair .support s) (own s (e ∷ drop (suc k) order))
+      supports : (s : Side) → supportAfter pair k s ≡ headOr (supportAfter pair 0 s) (own s (e ∷ drop (suc k) order))
+      unfolding passAll
       supports = support-after pair (polygons-go-round polygons) (take k order) _ split
 
       next-side : nextSide pair k ≡ e .side
       next-side = rw (to-come, supports A, supports B) (chosen pair polygons _ _ (e .number) (take k order) _ (e .side) split)
 
-      pub next-edge : getD (angularOrder pair) k none ≡ record { side = nextSide pair k; number = after pair k .support (nextSide pair k) }
+      pub next-edge : getD (angularOrder pair) k none
+          ≡ record { side = nextSide pair k; number = supportAfter pair k (nextSide pair k) }
       next-edge = rw (next-side, supports, own-here)
 
     abbrev none : PairEdge

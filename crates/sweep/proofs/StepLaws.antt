@@ -1,4 +1,4 @@
--- The parts of a step, put together, are a step of document 01's sweep.
+-- The parts of a step, put together, are a step of rule 5.5.
 --     IsLocalFeature       what `measuring::local_feature` answers for a corner
 --     after-bounded        the state after k steps is bounded
 --     step-measurable, step-bounded, step-passable    what the parts ask holds where a step can be made
@@ -13,27 +13,29 @@ use mathlib.Mathlib.Data.Bool.Basic.{or-eq-false-eq-eq-false-and-eq-false}
 use native.Mathlib.Omega.{arith}
 use lib.ListN.{length}
 use Rattle.plane.specs.declared.Corner.{Corner}
-use Rattle.outline.specs.Convex.{Polygon}
+use Rattle.outline.specs.code.Polygon.{Polygon}
 use Rattle.outline.specs.Corners.{corner}
 use Rattle.outline.proofs.EdgeLaws.{accepted-polygon}
 use Rattle.outline.proofs.CornersLaws.{next-previous}
 use Rattle.nearest.specs.declared.Feature.{Feature}
 use Rattle.nearest.specs.declared.Feature.the-variants as Feature
 use Rattle.nearest.specs.Feature.{values}
-use Rattle.nearest.specs.Local.{feature, nearest}
+use Rattle.nearest.specs.code.Local.{feature, nearest}
 use Rattle.outline.specs.declared.Side.{Side}
 use Rattle.outline.specs.declared.Side.the-variants.{A, B}
 use Rattle.hausdorff.specs.declared.WorstSoFar.{WorstSoFar}
 use Rattle.hausdorff.specs.declared.WorstSoFar.the-variants.{None, Worst}
-use Rattle.hausdorff.specs.Pair.{Pair, AcceptedPair, Polygons, other, sameSide, stepCount}
+use Rattle.hausdorff.specs.Pair.{Pair, other, sameSide, stepCount}
+use Rattle.hausdorff.specs.code.Pair.{AcceptedPair, Polygons}
 use Rattle.hausdorff.specs.AngularOrder.{PairEdge}
-use Rattle.hausdorff.specs.Counting.{isCounted}
+use Rattle.hausdorff.specs.code.Counting.{isCounted}
 use Rattle.hausdorff.specs.CornerGap.{withCorner}
-use Rattle.hausdorff.specs.Worst.{shownNumber, keep}
-use Rattle.hausdorff.specs.Sweep.{measured, passedSupport, step, after}
+use Rattle.hausdorff.specs.code.Worst.{shownNumber, keep}
+use Rattle.hausdorff.specs.code.Sweep.{measured, worstAfter}
+use Rattle.hausdorff.specs.Support.{pass, supportAfter}
 use Rattle.hausdorff.proofs.Extreme.{AtSupport}
 use Rattle.hausdorff.proofs.CountingLaws.{counted-iff}
-use Rattle.hausdorff.proofs.SweepLaws.{after-step}
+use Rattle.hausdorff.proofs.SweepLaws.{support-step}
 use Rattle.hausdorff.proofs.WorstLaws.{support-known}
 use Rattle.sweep.specs.declared.SideState.{SideState}
 use Rattle.sweep.specs.declared.State.{State}
@@ -104,7 +106,7 @@ passedState pair m t =
 -- side s of it, where the edge that was passed is the one at the support corner of side r
 abbrev passedSide : Pair → (Side → SideState) → Side → Side → SideState
 passedSide pair sides r s = record {
-  support = passedSupport pair (record { side = r; number = sides r .support }) (λ q. sides q .support) s;
+  support = pass pair (record { side = r; number = sides r .support }) (λ q. sides q .support) s;
   remaining = cond (sameSide s r) (sides s .remaining - 1) (sides s .remaining);
   worst = sides s .worst;
 }
@@ -120,19 +122,23 @@ passed-either pair m sides equal false B = equal B
 -- side s of the sweep that has made k steps and measured
 abbrev measuredSide : Pair → ℕ → Side → SideState
 measuredSide pair k s = record {
-  support = after pair k .support s;
+  support = supportAfter pair k s;
   remaining = toCome pair k s;
-  worst = keep (shownNumber pair s) (after pair k .worst s) (measured pair (after pair k .support) s);
+  worst = keep (shownNumber pair s) (worstAfter pair k s) (measured pair (supportAfter pair k) s);
 }
 
 -- The sweep then passes the next edge of the order, which is at a support corner.
 step-side : (pair : Pair) → Polygons pair → (k : ℕ) → k < stepCount pair → (s : Side)
     → passedSide pair (measuredSide pair k) (nextSide pair k) s
-    ≡ record { support = after pair (suc k) .support s; remaining = toCome pair (suc k) s; worst = after pair (suc k) .worst s }
-unfolding step
+    ≡ record {
+      support = supportAfter pair (suc k) s;
+      remaining = toCome pair (suc k) s;
+      worst = worstAfter pair (suc k) s;
+    }
+unfolding worstAfter
 step-side pair polygons k more s =
     let none : PairEdge = record { side = A; number = 0 } in
-    rw (after-step pair k none more, next-edge pair polygons k more none, step-to-come pair polygons k more s)
+    rw (support-step pair k none more, next-edge pair polygons k more none, step-to-come pair polygons k more s)
 
 -- what a step sees of a side
 abbrev windowOf : Window → Window → Side → Window
@@ -140,7 +146,8 @@ windowOf a b A = a
 windowOf a b B = b
 
 -- The code goes by the edges at the support corners, and so passes the same edge.
-module _ (pair : Pair) (k : ℕ) {a b : Window} (sees : (s : Side) → windowOf a b s ≡ windowAt (pair s) (after pair k .support s)) where
+module _ (pair : Pair) (k : ℕ) {a b : Window}
+    (sees : (s : Side) → windowOf a b s ≡ windowAt (pair s) (supportAfter pair k s)) where
   passed-state : (m : State) → ((s : Side) → sideState m s .remaining ≡ toCome pair k s)
       → passed a b m ≡ passedState pair m (isNextB pair k)
   passed-state m remaining = rw (sees A, sees B, remaining A, remaining B)
@@ -163,7 +170,7 @@ stays state a b local-a local-b same =
 
 module _ {state : State} {a b : Window} (can : CanStep state a b) where
   abbrev support : Side → ℕ
-  support = after (can .pair) (can .steps) .support
+  support = supportAfter (can .pair) (can .steps)
 
   polygons : Polygons (can .pair)
   polygons s = accepted-polygon (can .accepted s)
@@ -241,9 +248,9 @@ module _ {state : State} {a b : Window} (can : CanStep state a b) where
     }
       where
         side : (s : Side) → sideState (passed a b (withWorst a b local-a local-b state)) s ≡ record {
-          support = after (can .pair) (suc (can .steps)) .support s;
+          support = supportAfter (can .pair) (suc (can .steps)) s;
           remaining = toCome (can .pair) (suc (can .steps)) s;
-          worst = after (can .pair) (suc (can .steps)) .worst s;
+          worst = worstAfter (can .pair) (suc (can .steps)) s;
         }
         side s =
             passed-next (can .pair) (can .steps) sees (withWorst a b local-a local-b state)

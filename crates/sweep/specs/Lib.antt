@@ -1,2 +1,2 @@
--- What the code of the sweep works on, and how it stands for document 01's sweep.
+-- What the code of the sweep works on, and how it stands for the sweep of section 5.
 pub mod State

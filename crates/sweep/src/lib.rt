@@ -8,13 +8,14 @@ use plane::Corner;
 use reading::corners::next;
 ghost use mathlib.Core.Path.{_≡_};
 ghost use Prim.Native.Nat.{suc, _<_};
-ghost use Rattle.outline.specs.Convex.{IsOutline};
-ghost use Rattle.outline.specs.Corners.{cornersOf};
-ghost use Rattle.hausdorff.specs.Lowest.{LowestLeftmost};
+ghost use Rattle.outline.specs.code.Held.{IsOutline};
+ghost use Rattle.outline.specs.code.Held.{cornersOf};
+ghost use Rattle.hausdorff.specs.code.Lowest.{LowestLeftmost};
 ghost use Rattle.sweep.specs.State.{IsAfter, CanStep, isLower, beginning};
-ghost use Rattle.sweep.specs.State.{Measurable, BoundedState, Passable, bIsNext, advanced, passed, changesWorst, withWorst};
+ghost use Rattle.sweep.specs.State.{Measurable, BoundedState, Passable, bIsNext, advanced, passed};
+ghost use Rattle.sweep.specs.State.{changesWorst, withWorst};
 
-// One outline's part of the sweep: its support corner (document 01: the corner in touch), how many of its edges are still to be passed,
+// One outline's part of the sweep: its support corner, how many of its edges are still to be passed,
 // and the worst so far of its corners.
 pub struct SideState {
     pub support: usize,
@@ -22,14 +23,14 @@ pub struct SideState {
     pub worst: WorstSoFar,
 }
 
-// Document 01: the sweep's state, one part for each side.
+// The sweep's state, one part for each side.
 pub struct State {
     pub a: SideState,
     pub b: SideState,
 }
 
-// Whether the next edge is B's: if A has none left, or both have some and B's is strictly first. Directions that are compared are less
-// than half a turn apart (`proofs/NextEdge.antt`), so the sign of the side number decides.
+// Whether the next edge is B's: if A has none left, or both have some and B's is strictly first. Directions that
+// are compared are less than half a turn apart (`proofs/NextEdge.antt`), so the sign of the side number decides.
 fn b_is_next(a: Window, b: Window, remaining_a: usize, remaining_b: usize) -> bool
     requires { ⌜ Measurable a b ⌝ }
     ensures { λ r. ⌜ r ≡ bIsNext a b «remaining_a» «remaining_b» ⌝ }
@@ -81,8 +82,8 @@ impl State {
         }
     }
 
-    // Whether measuring changes the worst so far of a side. Mostly it does not; then a step changes a support corner and a count only, and
-    // builds no worst so far anew.
+    // Whether measuring changes the worst so far of a side. Mostly it does not; then a step changes a support
+    // corner and a count only, and builds no worst so far anew.
     fn changes_worst(
         self,
         a: Window,
@@ -128,8 +129,9 @@ impl State {
         }
     }
 
-    // Document 01: a step first measures and then passes the next edge. `a` and `b` are the windows at the support corners. From the sweep
-    // after k steps it gives that after k + 1, which is the definition's step (`after-step` in `hausdorff`).
+    // Rule 5.5: a step first measures and then passes the next edge. `a` and `b` are the windows at the support
+    // corners. From the sweep after k steps it gives that after k + 1, which is the definition's step (`after-step`
+    // in `hausdorff`).
     pub fn step(self, a: Window, b: Window) -> State
         requires { ⌜ CanStep self a b ⌝ }
         ensures { λ r. ⌜ ((can : CanStep self a b) → IsAfter (can .pair) (suc (can .steps)) r) ⌝ }

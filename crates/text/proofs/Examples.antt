@@ -7,7 +7,8 @@ use Rattle.text.specs.declared.input.Parsed.the-variants.{Number, Invali
 use Rattle.text.specs.Ascii.{ascii}
 use Rattle.text.specs.Decimal.{digits, decimal, signedDecimal}
 use Rattle.text.specs.Number.{allDigits, valueFrom, natural, number, firstNumber}
-use Rattle.text.specs.Output.{textOf, pushed, appended}
+use Rattle.text.specs.Output.{textOf}
+use Rattle.text.specs.code.Output.{pushed, appended}
 use Rattle.text.specs.Words.{wordsFrom, words}
 
 -- separators before the first word, after the last, and more than one between two

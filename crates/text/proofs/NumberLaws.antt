@@ -23,7 +23,8 @@ use lib.ListN.{length, getD, drop}
 use lib.Seq.{drop-cons}
 use Rattle.integers.proofs.Reflect.{test-and, test-leb}
 use Rattle.text.specs.declared.input.Parsed.the-variants.{Number, Invalid}
-use Rattle.text.specs.Number.{isDigit, allDigits, withDigit, valueFrom, value, natural, number, IsShort}
+use Rattle.text.specs.Number.{isDigit, allDigits, withDigit, valueFrom, value, natural, number}
+use Rattle.text.specs.code.Number.{IsShort}
 
 pub digit-bounds : (b : ℕ) → isDigit b ≡ true → (48 ≤ b) × (b ≤ 57)
 digit-bounds b = test-and _ _ (test-leb 48 b) (test-leb b 57) .0

@@ -13,7 +13,8 @@ use lib.Dec.{ltb}
 use lib.ListN.{length, replicate, set, length-append, length-replicate, length-set}
 use lib.Seq.{set-at}
 use Rattle.text.specs.declared.output.Text.{Text}
-use Rattle.text.specs.Output.{room, textOf, IsText, pushed, appended}
+use Rattle.text.specs.Output.{room, textOf}
+use Rattle.text.specs.code.Output.{IsText, pushed, appended}
 
 pub appended-append : (t : Text) (r s : List ℕ) → appended (appended t r) s ≡ appended t (r ++ s)
 unfolding appended

@@ -2,7 +2,8 @@
 --     run-more, run-stops, run-past    a run from a place on, by the byte that stands there
 --     run-≤              a run is no longer than the text
 --     NoSeparator, IsWord    no byte of a text is a separator; a word is such a text that is not empty
---     words-none, words-separator, words-word, words-last    the rules of `words`: the empty text has none, a separator before a text gives
+--     words-none, words-separator, words-word, words-last    the rules of `words`: the empty text has none, a
+--                                                            separator before a text gives
 --                        none, and a word before a separator, or at the end, is one
 --     words-are-words    every one of them is a word
 --     next-word, no-word, past-words    the first word from a place on, as the code finds it, and where there is none
@@ -11,7 +12,8 @@ use Prim.Native.Nat.{ℕ, suc, _+_, _≤_, _<_}
 use mathlib.Core.Bool.{Bool, true, false, cond, not}
 use mathlib.Core.Path.{_≡_, refl, ap, _∙_}
 use mathlib.Core.List.{List, [], _∷_, _++_, append-assoc, append-nil}
-use mathlib.Core.List.{List·Memᴰ, List·Memᴰ·head, List·Memᴰ·tail, List·Memᴰ·not-nil, List·Memᴰ·eq-of-singleton, List·Memᴰ·append-cases}
+use mathlib.Core.List.{List·Memᴰ, List·Memᴰ·head, List·Memᴰ·tail, List·Memᴰ·not-nil, List·Memᴰ·eq-of-singleton}
+use mathlib.Core.List.{List·Memᴰ·append-cases}
 use mathlib.Core.Logic.{⊎-elim}
 use native.Mathlib.Numerals.{add-one}
 use native.Mathlib.Omega.{arith}
@@ -19,7 +21,8 @@ use borrow.Author.Tests.{leb-true, leb-false, ltb-true, ltb-false}
 use lib.Dec.{leb, ltb}
 use lib.ListN.{length, getD, take, drop, length-drop, drop-of-length-le}
 use lib.Seq.{drop-cons, drop-drop, take-append-seam, drop-append-seam}
-use Rattle.text.specs.Words.{isSeparator, isOf, run, ended, wordsFrom, words, isEmpty}
+use Rattle.text.specs.Words.{isSeparator, ended, wordsFrom, words}
+use Rattle.text.specs.code.Words.{isOf, run, isEmpty}
 
 module _ (separators : Bool) (s : List ℕ) (i : ℕ) where
   pub run-more : i < length s → isOf separators (getD s i 0) ≡ true → run separators (drop i s) ≡ suc (run separators (drop (i + 1) s))

@@ -4,3 +4,4 @@ pub mod Decimal
 pub mod Output
 pub mod Words
 pub mod Number
+pub mod code

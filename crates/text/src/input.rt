@@ -3,8 +3,10 @@ ghost use Prim.Native.Nat.{_+_, _<_};
 ghost use mathlib.Core.Bool.{true};
 ghost use mathlib.Core.Path.{_≡_};
 ghost use lib.ListN.{drop};
-ghost use Rattle.text.specs.Number.{isDigit, withDigit, natural, IsShort, negated, number, firstNumber};
-ghost use Rattle.text.specs.Words.{isSeparator, isOf, run, words, isEmpty};
+ghost use Rattle.text.specs.Number.{isDigit, withDigit, natural, negated, number, firstNumber};
+ghost use Rattle.text.specs.code.Number.{IsShort};
+ghost use Rattle.text.specs.Words.{isSeparator, words};
+ghost use Rattle.text.specs.code.Words.{isOf, run, isEmpty};
 
 // The most digits of a number.
 const MOST_DIGITS: usize = 5;

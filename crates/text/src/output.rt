@@ -4,7 +4,8 @@ ghost use mathlib.Core.Path.{_≡_};
 ghost use lib.IntN.{pos, natAbs};
 ghost use lib.Signed.{_<ℤ_};
 ghost use Rattle.text.specs.Decimal.{decimal, signedDecimal};
-ghost use Rattle.text.specs.Output.{textOf, pushed, appended};
+ghost use Rattle.text.specs.Output.{textOf};
+ghost use Rattle.text.specs.code.Output.{pushed, appended};
 
 // How many bytes a text has room for.
 const ROOM: usize = 512;

@@ -1,30 +1,33 @@
 -- All marked examples hold: each by computing what the definitions give.
 use mathlib.Core.Path.{refl}
-use Rattle.plane.specs.Range.{inRange}
-use Rattle.plane.specs.Vector.{_⇀_, cross, dot, same}
+use Rattle.plane.specs.code.Range.{inRange}
+use Rattle.plane.specs.Vector.{_⇀_, cross, dot}
+use Rattle.plane.specs.code.Tests.{same}
 use Rattle.lists.specs.Fold.{fold}
 use Rattle.outline.specs.Corners.{corners, next}
-use Rattle.outline.specs.Reading.{checkRange, checkRepeated, checkEdge, checkConvex, check}
-use Rattle.nearest.specs.Local.{feature}
-use Rattle.nearest.specs.Search.{triedCorners, triedEdges, tried, least}
-use Rattle.nearest.specs.Call.{checkNearest}
-use Rattle.edit.specs.Removal.{without, checkRemoval}
+use Rattle.outline.specs.code.Reading.{checkRange, checkRepeated, checkEdge, checkConvex, check}
+use Rattle.nearest.specs.code.Local.{feature}
+use Rattle.nearest.specs.Search.{tried, least}
+use Rattle.nearest.specs.code.Call.{checkNearest}
+use Rattle.edit.specs.Removal.{without}
+use Rattle.edit.specs.code.Removal.{checkRemoval}
 use Rattle.plane.specs.Direction.{isFirstHalf, isBefore, sameDirection}
 use Rattle.plane.specs.Point.{_⇢_}
-use Rattle.integers.specs.Root.{rootBy}
+use Rattle.integers.specs.code.Root.{rootBy}
 use Rattle.lists.specs.Lists.{insert, sort}
-use Rattle.hausdorff.specs.AngularOrder.{precedes, edgesBelow, angularOrder, own}
-use Rattle.hausdorff.specs.Counting.{liesAt, isCounted}
-use Rattle.hausdorff.specs.Sweep.{begin, measured, step, steps}
-use Rattle.hausdorff.specs.Report.{report}
-use Rattle.hausdorff.specs.Call.{checkPair}
-use Rattle.hausdorff.specs.Exhaustive.{tryCorners}
-use Rattle.worked.specs.Cases.{All, cases, S, T, star, straight, clockwise, twice, wedge, moved, turned, low, high, square, squareMoved, thin, wide}
+use Rattle.hausdorff.specs.AngularOrder.{precedes, angularOrder}
+use Rattle.hausdorff.specs.code.Counting.{liesAt, isCounted}
+use Rattle.hausdorff.specs.Support.{firstStart, passAll}
+use Rattle.hausdorff.specs.code.Sweep.{measured, worstAfter}
+use Rattle.hausdorff.specs.code.Report.{report}
+use Rattle.hausdorff.specs.code.Call.{checkPair}
+use Rattle.worked.specs.Cases.{All, cases, S, T, star, straight, clockwise, twice, wedge, moved, turned, low}
+use Rattle.worked.specs.Cases.{high, square, squareMoved, thin, wide}
 
 pub claim : All cases
 unfolding inRange _⇀_ cross dot same fold corners next checkRange checkRepeated checkEdge checkConvex check checkPair
-    without checkRemoval feature triedCorners triedEdges tried least checkNearest isFirstHalf isBefore sameDirection _⇢_
-    rootBy precedes insert sort edgesBelow angularOrder own liesAt isCounted begin measured step steps report tryCorners
+    without checkRemoval feature tried least checkNearest isFirstHalf isBefore sameDirection _⇢_
+    rootBy precedes insert sort angularOrder liesAt isCounted firstStart passAll measured worstAfter report
     S T star straight clockwise twice wedge moved turned low high square squareMoved thin wide
 claim =
     (refl, (refl, (refl, (refl, (refl, (refl, ((refl, refl), ((refl, refl), ((refl, refl), ((refl, refl), (refl, (refl, (refl, (refl, (refl, (refl, (refl, (refl, (refl, (refl, (refl, (refl, (refl, (refl, (refl, (refl, (refl, (refl, (refl, (refl, (refl, (refl, (refl, (refl, (refl, (refl, (refl, (refl, (refl, (refl, (refl, tt)))))))))))))))))))))))))))))))))))))))))

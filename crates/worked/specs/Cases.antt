@@ -1,8 +1,4 @@
--- The marked examples of document 01 and a few more, and what each claims.
---     Case     a call, what it is handed, and what it answers
---     Holds    the definitions say so
---     cases    the examples
---     All      each of them holds
+-- The proved examples of section 10 of docs/SPECIFICATION.md, and what each claims.
 use Prim.Native.Nat.{ℕ}
 use mathlib.Core.Path.{_≡_}
 use mathlib.Core.List.{List, [], _∷_}
@@ -14,16 +10,16 @@ use Rattle.outline.specs.declared.Verdict.the-variants.{Taken, Refused}
 use Rattle.outline.specs.declared.Place.the-variants.{Nowhere, EdgeAndCorner}
 use Rattle.outline.specs.declared.RefusedSide.{RefusedSide}
 use Rattle.outline.specs.declared.RefusedSide.the-variants.{NoSide, Of}
-use Rattle.outline.specs.Reading.{reading}
+use Rattle.outline.specs.code.Reading.{reading}
 use Rattle.outline.specs.Corners.{corners}
 use Rattle.nearest.specs.declared.NearestAnswer.{NearestAnswer}
 use Rattle.nearest.specs.declared.NearestAnswer.the-variants as NearestAnswer
 use Rattle.nearest.specs.declared.Feature.{Feature}
 use Rattle.nearest.specs.declared.Feature.the-variants as Feature
 use Rattle.nearest.specs.declared.NearestPoint.{NearestPoint}
-use Rattle.nearest.specs.Call.{nearestAnswer}
+use Rattle.nearest.specs.code.Call.{nearestAnswer}
 use Rattle.nearest.specs.Search.{search}
-use Rattle.edit.specs.Removal.{removalVerdict, listAfter}
+use Rattle.edit.specs.code.Removal.{removalVerdict, listAfter}
 use Rattle.outline.specs.declared.Side.{Side}
 use Rattle.outline.specs.declared.Side.the-variants.{A, B}
 use Rattle.hausdorff.specs.declared.CornerGap.{CornerGap}
@@ -35,8 +31,9 @@ use Rattle.hausdorff.specs.declared.Report.the-variants as Report
 use Rattle.hausdorff.specs.Pair.{Pair, both}
 use Rattle.hausdorff.specs.AngularOrder.{PairEdge, angularOrder}
 use Rattle.hausdorff.specs.Exhaustive.{exhaustive}
-use Rattle.hausdorff.specs.Call.{comparison}
+use Rattle.hausdorff.specs.code.Call.{comparison}
 
+-- a call, what it is handed, and what it answers
 pub data Case : Type 0 where
   -- reading the list ends so
   reads : List ℤ → Verdict → Case
@@ -53,9 +50,11 @@ pub data Case : Type 0 where
   -- the exhaustive search over both finds this
   exhausts : List ℤ → List ℤ → CornerGap → Case
 
+-- the outlines of two lists
 abbrev pair : List ℤ → List ℤ → Pair
 pair s t = both (corners s) (corners t)
 
+-- what a case claims: the definitions say so
 abbrev pub Holds : Case → Type 0
 Holds (reads s ends) = reading NoSide s .verdict ≡ ends
 Holds (removes s k out ends after) = (removalVerdict s k out ≡ ends) × (listAfter s k out ≡ after)
@@ -65,23 +64,28 @@ Holds (orders s t order) = angularOrder (pair s t) ≡ order
 Holds (compares s t allowance ends) = comparison s t allowance ≡ ends
 Holds (exhausts s t found) = exhaustive (pair s t) ≡ found
 
+-- each case of a list holds
 abbrev pub All : List Case → Type 0
 All [] = Unit {0}
 All (c ∷ cs) = Holds c × All cs
 
+-- a square: (0,0) (4,0) (4,4) (0,4)
 unfoldable pub S : List ℤ
 S = pos 0 ∷ pos 0 ∷ pos 4 ∷ pos 0 ∷ pos 4 ∷ pos 4 ∷ pos 0 ∷ pos 4 ∷ []
 
+-- a triangle: (0,0) (4,0) (0,4)
 unfoldable pub T : List ℤ
 T = pos 0 ∷ pos 0 ∷ pos 4 ∷ pos 0 ∷ pos 0 ∷ pos 4 ∷ []
 
--- it turns left at each corner
+-- a star: it turns left at each corner
 unfoldable pub star : List ℤ
 star = pos 0 ∷ pos 3 ∷ negsuc 1 ∷ negsuc 2 ∷ pos 3 ∷ pos 1 ∷ negsuc 2 ∷ pos 1 ∷ pos 2 ∷ negsuc 2 ∷ []
 
+-- a triangle with a corner more, on one of its edges
 unfoldable pub straight : List ℤ
 straight = pos 0 ∷ pos 0 ∷ pos 2 ∷ pos 0 ∷ pos 4 ∷ pos 0 ∷ pos 0 ∷ pos 3 ∷ []
 
+-- T, walked clockwise
 unfoldable pub clockwise : List ℤ
 clockwise = pos 0 ∷ pos 0 ∷ pos 0 ∷ pos 4 ∷ pos 4 ∷ pos 0 ∷ []
 
@@ -93,9 +97,11 @@ twice = pos 0 ∷ pos 0 ∷ pos 4 ∷ pos 0 ∷ pos 0 ∷ pos 4 ∷ T
 unfoldable pub wedge : List ℤ
 wedge = pos 0 ∷ pos 0 ∷ pos 9 ∷ pos 0 ∷ pos 0 ∷ pos 3 ∷ []
 
+-- the point (x, y)
 abbrev pub point : ℤ → ℤ → Corner
 point x y = record { x = x; y = y }
 
+-- on edge 1 of the wedge: the nearest point to (6,6)
 abbrev edgeOne : NearestPoint
 edgeOne = record {
   feature = Feature.Edge 1;
@@ -103,6 +109,7 @@ edgeOne = record {
   point = record { x = pos 405; y = pos 135; lower = 90 };
 }
 
+-- at corner 1 of the wedge, with a whole gap
 abbrev cornerOne : ℕ → NearestPoint
 cornerOne gap = record {
   feature = Feature.Corner 1;
@@ -110,6 +117,7 @@ cornerOne gap = record {
   point = record { x = pos 9; y = pos 0; lower = 1 };
 }
 
+-- within: the point itself
 abbrev within : ℤ → ℤ → NearestPoint
 within x y = record {
   feature = Feature.Within;
@@ -117,22 +125,27 @@ within x y = record {
   point = record { x = x; y = y; lower = 1 };
 }
 
--- lists to write, whatever they hold before
+-- a list of four numbers to write, whatever they are before
 abbrev pub four : List ℤ
 four = pos 7 ∷ pos 7 ∷ pos 7 ∷ pos 7 ∷ []
 
+-- one of six numbers
 abbrev pub six : List ℤ
 six = pos 7 ∷ pos 7 ∷ four
 
+-- refusal 6, with its edge and corner
 abbrev notLeft : RefusedSide → ℕ → ℕ → Refusal
 notLeft whose e c = record { number = 6; side = whose; place = EdgeAndCorner e c }
 
+-- refusal 2
 abbrev tooFew : Refusal
 tooFew = record { number = 2; side = NoSide; place = Nowhere }
 
+-- refusal 7
 abbrev pointOut : Refusal
 pointOut = record { number = 7; side = NoSide; place = Nowhere }
 
+-- S, moved by (10,0)
 unfoldable pub moved : List ℤ
 moved = pos 10 ∷ pos 0 ∷ pos 14 ∷ pos 0 ∷ pos 14 ∷ pos 4 ∷ pos 10 ∷ pos 4 ∷ []
 
@@ -140,27 +153,35 @@ moved = pos 10 ∷ pos 0 ∷ pos 14 ∷ pos 0 ∷ pos 14 ∷ pos 4 ∷ pos 10 �
 unfoldable pub turned : List ℤ
 turned = pos 4 ∷ pos 4 ∷ pos 0 ∷ pos 4 ∷ pos 0 ∷ pos 0 ∷ pos 4 ∷ pos 0 ∷ []
 
+-- a small triangle where coordinates are lowest
 unfoldable pub low : List ℤ
 low = negsuc 15999 ∷ negsuc 15999 ∷ negsuc 15998 ∷ negsuc 15999 ∷ negsuc 15999 ∷ negsuc 15998 ∷ []
 
+-- a small triangle where coordinates are highest
 unfoldable pub high : List ℤ
 high = pos 16000 ∷ pos 16000 ∷ pos 15999 ∷ pos 16000 ∷ pos 16000 ∷ pos 15999 ∷ []
 
+-- a square about (0,0)
 unfoldable pub square : List ℤ
 square = pos 1 ∷ negsuc 0 ∷ pos 1 ∷ pos 1 ∷ negsuc 0 ∷ pos 1 ∷ negsuc 0 ∷ negsuc 0 ∷ []
 
+-- that square, moved by (10,0)
 unfoldable pub squareMoved : List ℤ
 squareMoved = pos 11 ∷ negsuc 0 ∷ pos 11 ∷ pos 1 ∷ pos 9 ∷ pos 1 ∷ pos 9 ∷ negsuc 0 ∷ []
 
+-- a triangle with a corner whose nearest point in `wide` is a neighbour of the support corner
 unfoldable pub thin : List ℤ
 thin = pos 2 ∷ pos 0 ∷ pos 1 ∷ pos 0 ∷ negsuc 1 ∷ negsuc 0 ∷ []
 
+-- the other triangle of that pair
 unfoldable pub wide : List ℤ
 wide = pos 0 ∷ pos 0 ∷ negsuc 1 ∷ pos 2 ∷ negsuc 1 ∷ negsuc 0 ∷ []
 
+-- edge i of A in the angular order
 abbrev a : ℕ → PairEdge
 a i = record { side = A; number = i }
 
+-- edge i of B in the angular order
 abbrev b : ℕ → PairEdge
 b i = record { side = B; number = i }
 
@@ -174,14 +195,17 @@ corner s i f upper x y lower = record {
   point = record { x = x; y = y; lower = lower };
 }
 
+-- a spent report: the steps made, the support corners of A and B, and the worst so far
 abbrev spent : ℕ → ℕ → ℕ → WorstSoFar → Comparison
 spent steps i j worst =
     Comparison.Reported (Report.Spent (record { steps = steps; support = record { a = i; b = j }; worst = worst }))
 
+-- a done report: the steps made, the answer and its clearance
 abbrev done : ℕ → CornerGap → ℕ → Comparison
 done steps answer clearance =
     Comparison.Reported (Report.Done (record { steps = steps; answer = answer; clearance = clearance }))
 
+-- the examples
 abbrev pub cases : List Case
 cases =
     reads S Taken

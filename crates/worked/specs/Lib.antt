@@ -1,2 +1,2 @@
--- Document 01, "Worked fits".
+-- The examples that are proved.
 pub mod Cases

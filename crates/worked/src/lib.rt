@@ -1,2 +1,2 @@
-// The worked examples of document 01 that are marked to be proved: `specs/Cases.antt` lists them, `proofs/Claim.antt` proves them
-// together, from the definitions alone.
+// The examples of section 10 of docs/SPECIFICATION.md that are proved: `specs/Cases.antt` lists them,
+// `proofs/Claim.antt` proves them together, from the definitions alone.

@@ -1,4 +1,5 @@
--- `calls::compare` goes by what reading A's list gives, then by what reading B's gives, and then by the report of the steps.
+-- `calls::compare` goes by what reading A's list gives, then by what reading B's gives, and then by the report of
+-- the steps.
 use borrow.Author.Needs.{needs}
 use Rattle.hausdorff.proofs.CallLaws.{call-unread-a, call-unread-b, call-asks, call-reported, call-promises}
 use Rattle.calls.proofs.compare.Statement.{statement}

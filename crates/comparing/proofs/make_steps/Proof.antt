@@ -1,4 +1,5 @@
--- `comparing::make_steps` begins at the lowest corners and makes the steps, each with what is read at the support corners.
+-- `comparing::make_steps` begins at the lowest corners and makes the steps, each with what is read at the support
+-- corners.
 use Prim.Native.Nat.{_-_}
 use native.Mathlib.Omega.{arith}
 use Rattle.outline.proofs.HeldLaws.{length-mapped}

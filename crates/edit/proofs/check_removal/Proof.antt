@@ -13,13 +13,14 @@ use Rattle.outline.specs.declared.Refusal.{Refusal}
 use Rattle.outline.specs.declared.RefusedSide.the-variants.{NoSide}
 use Rattle.outline.specs.declared.Verdict.{Verdict}
 use Rattle.outline.specs.declared.Verdict.the-variants.{Taken, Refused}
-use Rattle.outline.specs.Checks.{first}
+use Rattle.outline.specs.code.Checks.{first}
 use Rattle.outline.specs.Corners.{corners}
-use Rattle.outline.specs.Reading.{checks, check}
+use Rattle.outline.specs.code.Reading.{checks, check}
 use Rattle.outline.specs.Refusal.{refusal}
 use Rattle.outline.proofs.ChecksLaws.{append-stops, append-goes-on}
 use Rattle.outline.proofs.CornersLaws.{corners-fit}
-use Rattle.edit.specs.Removal.{without, smallest, noSuchCorner, justThree, wrongLength, ownChecks, checkRemoval}
+use Rattle.edit.specs.Removal.{without, smallest, noSuchCorner, justThree, wrongLength}
+use Rattle.edit.specs.code.Removal.{ownChecks, checkRemoval}
 use Rattle.edit.proofs.Without.{numbers-without}
 use Rattle.edit.proofs.check_removal.Statement.{statement}
 use Rattle.edit.proofs.check_removal.Tie as tie

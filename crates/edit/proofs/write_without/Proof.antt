@@ -11,7 +11,8 @@ use Rattle.plane.specs.declared.Corner.{Corner}
 use Rattle.plane.specs.Vector.{coordinates}
 use Rattle.outline.specs.Corners.{corners, corner}
 use Rattle.outline.proofs.CornersLaws.{corners-fit}
-use Rattle.edit.specs.Removal.{without, oldNumber, Removable, putCorner}
+use Rattle.edit.specs.Removal.{without}
+use Rattle.edit.specs.code.Writing.{oldNumber, Removable, putCorner}
 use Rattle.edit.proofs.Without.{oldNumber-≤, length-without, numbers-without, corner-without}
 use Rattle.edit.proofs.Writing.{put-next}
 use Rattle.edit.proofs.write_without.Statement.{statement}

@@ -7,7 +7,8 @@ use Prim.Native.Nat.{ℕ, _≤_, _<_}
 use lib.ListN.{length}
 use Rattle.text.specs.declared.output.Text.{Text}
 use Rattle.text.specs.Ascii.{ascii}
-use Rattle.text.specs.Output.{room, textOf, appended}
+use Rattle.text.specs.Output.{room, textOf}
+use Rattle.text.specs.code.Output.{appended}
 use Rattle.text.proofs.OutputLaws.{textOf-appended}
 use Rattle.hausdorff.specs.declared.Comparison.{Comparison}
 use Rattle.fit_lines.specs.Lines.{comparisonText}

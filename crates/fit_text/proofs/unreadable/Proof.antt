@@ -5,7 +5,8 @@ use mathlib.Core.Path.{_≡_}
 use native.Mathlib.Omega.{arith}
 use Rattle.text.specs.declared.output.Text.{Text}
 use Rattle.text.specs.Ascii.{ascii}
-use Rattle.text.specs.Output.{textOf, appended}
+use Rattle.text.specs.Output.{textOf}
+use Rattle.text.specs.code.Output.{appended}
 use Rattle.text.proofs.OutputLaws.{textOf-appended}
 use Rattle.fit_text.proofs.unreadable.Statement.{statement}
 use Rattle.fit_text.proofs.unreadable.Tie as tie

@@ -22,7 +22,8 @@ length-is c = let fits : SFits w64 (c .squared-length .result) = search sfits-of
 returns : tie.Need-returns
 returns c = rw (rw (along-is (c .before)) at (c .if1 .taken))
 
--- what the tests have shown of the foot: it is past the support corner; and then it is before the other end, or it is not
+-- what the tests have shown of the foot: it is past the support corner; and then it is before the other end, or it
+-- is not
 past-start : (c : tie.After-squared-length) → (let a = c .before .before .before .args in leZ (dot (a .to) (a .run)) (pos 0) ≡ false)
 past-start c = rw (along-is (c .before .before)) at (c .before .if1 .left)
 

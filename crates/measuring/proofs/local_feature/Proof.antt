@@ -2,7 +2,7 @@
 use borrow.Author.Needs.{needs}
 use mathlib.Core.Path.{_≡_}
 use Rattle.plane.specs.declared.Corner.{Corner}
-use Rattle.plane.specs.Range.{Span, reach}
+use Rattle.plane.specs.code.Range.{Span, reach}
 use Rattle.plane.proofs.Range.{span-difference}
 use Rattle.measuring.specs.declared.Window.{Window}
 use Rattle.measuring.proofs.WindowLaws.{window-range}

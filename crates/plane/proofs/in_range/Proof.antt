@@ -4,7 +4,7 @@ use mir.Facts.{toZ-ofZ}
 use mir.Syntax.{w32}
 use mir.Val.{SFits}
 use Rattle.integers.proofs.Reflect.{and-then, and-stop}
-use Rattle.plane.specs.Range.{inRange}
+use Rattle.plane.specs.code.Range.{inRange}
 use Rattle.plane.proofs.in_range.Statement.{statement}
 use Rattle.plane.proofs.in_range.Tie as tie
 

@@ -8,7 +8,8 @@ use Prim.Native.Nat.{suc}
 use lib.IntN.{ℤ, pos, negsuc, negℤ}
 use lib.Signed.{ltZ, leZ}
 use mir.Facts.{toZ-ofZ}
-use Rattle.plane.specs.Range.{isCoordinate, limit}
+use Rattle.plane.specs.code.Range.{isCoordinate}
+use Rattle.plane.specs.Range.{limit}
 use Rattle.plane.proofs.is_coordinate.Statement.{statement}
 use Rattle.plane.proofs.is_coordinate.Tie as tie
 

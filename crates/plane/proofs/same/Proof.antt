@@ -5,7 +5,7 @@ use mir.Syntax.{w32}
 use mir.Val.{SFits}
 use Rattle.integers.proofs.Reflect.{and-then, and-stop}
 use Rattle.plane.specs.declared.Corner.{Corner}
-use Rattle.plane.specs.Vector.{same}
+use Rattle.plane.specs.code.Tests.{same}
 use Rattle.plane.proofs.same.Statement.{statement}
 use Rattle.plane.proofs.same.Tie as tie
 

@@ -4,7 +4,8 @@ use mathlib.Core.Path.{_≡_, sym, _∙_}
 use native.Mathlib.Omega.{arith}
 use Prim.Native.Nat.{_-_}
 use lib.ListN.{length}
-use Rattle.outline.specs.Corners.{corner, most, cornersOf}
+use Rattle.outline.specs.Corners.{corner, most}
+use Rattle.outline.specs.code.Held.{cornersOf}
 use Rattle.outline.proofs.CornersLaws.{before-below, after-below}
 use Rattle.outline.proofs.HeldLaws.{length-cornersOf, length-mapped}
 use Rattle.projection.proofs.Pass.{Passing, pass-start, pass-none}

@@ -1,4 +1,5 @@
--- `ravinebowl::ravinebowl_nearest_point` goes by the length of the result list and then by what the call for the nearest point answers.
+-- `ravinebowl::ravinebowl_nearest_point` goes by the length of the result list and then by what the call for the
+-- nearest point answers.
 use borrow.Author.Needs.{needs}
 use mathlib.Core.Path.{_≡_, sym, _∙_}
 use mir.Syntax.{w32}
@@ -10,14 +11,15 @@ use Rattle.ravinebowl.proofs.CallsLaws.{nearest-wrong, nearest-right}
 use Rattle.ravinebowl.proofs.ravinebowl_nearest_point.Statement.{statement}
 use Rattle.ravinebowl.proofs.ravinebowl_nearest_point.Tie as tie
 
--- the result list has the right length, and the call for the nearest point answers this. The point is the one that was handed over
+-- the result list has the right length, and the call for the nearest point answers this. The point is the one that
+-- was handed over
 right : (c : tie.After-nearest-point) {answer : NearestAnswer} → c .nearest-point .result ≡ answer → (let args = c .before .before .args in
     (nearestStatus (args .x) (args .y) (args .outline .now) (args .result .now) ≡ statusOfNearest answer)
     × (nearestList (args .x) (args .y) (args .outline .now) (args .result .now) ≡ listOfNearest answer (args .result .now)))
 right c is =
     let start = c .before .before in
     let x = toZ-ofZ w32 (start .args .x) (start .fits .x) in let y = toZ-ofZ w32 (start .args .y) (start .fits .y) in
-    nearest-right _ _ _ _ (c .before .if1 .left) (sym (rw (x, y) at (c .nearest-point .ensures)) ∙ is)
+    nearest-right _ _ _ _ (c .before .if1 .left) (sym (rw (x, y) at (c .nearest-point .ensures .0)) ∙ is)
 
 returns : tie.Need-returns
 returns c =
@@ -25,7 +27,8 @@ returns c =
     (c .wrong-result-length .ensures ∙ sym status, sym list)
 
 of-nearest-requires : tie.Need-of-nearest-requires
-of-nearest-requires c κs = found-fits _ _ (sym (c .before .before .before .nearest-point .ensures) ∙ c .before .found .given .1)
+of-nearest-requires c κs =
+    found-fits _ _ (sym (c .before .before .before .nearest-point .ensures .0) ∙ c .before .found .given .1)
 
 returns-2 : tie.Need-returns-2
 returns-2 c =

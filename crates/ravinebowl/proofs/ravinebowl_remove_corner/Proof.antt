@@ -9,13 +9,13 @@ returns : tie.Need-returns
 returns c =
     let removed = c .before .before .before .before .remove-corner .ensures in
     let verdict = sym (removed .0) ∙ c .before .enum-told .given .1 in
-    (c .answered .ensures ∙ sym (ap statusOfVerdict verdict), removed .1)
+    (c .answered .ensures ∙ sym (ap statusOfVerdict verdict), removed .1 .0)
 
 returns-2 : tie.Need-returns-2
 returns-2 c =
     let removed = c .before .before .before .before .before .remove-corner .ensures in
     let verdict = sym (removed .0) ∙ c .before .before .refusal .given .1 in
-    (c .refused .ensures ∙ sym (ap statusOfVerdict verdict), removed .1)
+    (c .refused .ensures ∙ sym (ap statusOfVerdict verdict), removed .1 .0)
 
 pub ravinebowl-remove-corner-spec : {M : Type 1} → statement M
 ravinebowl-remove-corner-spec =

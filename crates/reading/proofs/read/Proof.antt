@@ -9,8 +9,8 @@ use Rattle.outline.specs.declared.Outline.{Outline}
 use Rattle.outline.specs.declared.Reading.{Reading}
 use Rattle.outline.specs.declared.RefusedSide.{RefusedSide}
 use Rattle.outline.specs.Corners.{corners, held}
-use Rattle.outline.specs.Reading.{check, reading}
-use Rattle.outline.specs.Checks.{ifTaken}
+use Rattle.outline.specs.code.Reading.{check, reading}
+use Rattle.outline.specs.code.Checks.{ifTaken}
 use Rattle.outline.proofs.Acceptance.{accepted}
 use Rattle.reading.proofs.read.Statement.{statement}
 use Rattle.reading.proofs.read.Tie as tie

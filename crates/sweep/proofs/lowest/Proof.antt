@@ -5,7 +5,8 @@ use mathlib.Core.Logic.{⊎-elim}
 use native.Mathlib.Omega.{arith}
 use Prim.Native.Nat.{_-_}
 use lib.ListN.{length}
-use Rattle.outline.specs.Corners.{most, cornersOf}
+use Rattle.outline.specs.Corners.{most}
+use Rattle.outline.specs.code.Held.{cornersOf}
 use Rattle.outline.proofs.HeldLaws.{length-cornersOf, length-mapped}
 use Rattle.sweep.proofs.BeginLaws.{Searching, search-start, search-lower, search-on, search-end}
 use Rattle.sweep.proofs.lowest.Statement.{statement}

@@ -3,7 +3,8 @@ use borrow.Author.Needs.{needs}
 use Prim.Native.Nat.{_*_}
 use mathlib.Core.Bool.{Bool, true, false, cond}
 use mathlib.Core.Path.{_≡_, refl}
-use Rattle.integers.specs.Fraction.{order, isLess}
+use Rattle.integers.specs.code.Fraction.{order}
+use Rattle.integers.specs.Fraction.{isLess}
 use Rattle.integers.specs.declared.fraction.Order.{Order}
 use Rattle.integers.specs.declared.fraction.Order.the-variants.{Less, Equal, Greater}
 use Rattle.hausdorff.specs.declared.CornerGap.{CornerGap}

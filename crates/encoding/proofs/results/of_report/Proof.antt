@@ -1,7 +1,7 @@
 -- `encoding::results::of_report` goes by whether the comparison is spent or done.
 use borrow.Author.Needs.{needs}
 use mathlib.Core.Path.{sym, ap, subst, _∙_}
-use Rattle.hausdorff.specs.Sizes.{ReportFits}
+use Rattle.hausdorff.specs.code.Sizes.{ReportFits}
 use Rattle.encoding.specs.Results.{ofReport}
 use Rattle.encoding.proofs.results.of_report.Statement.{statement}
 use Rattle.encoding.proofs.results.of_report.Tie as tie

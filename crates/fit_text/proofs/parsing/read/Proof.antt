@@ -5,7 +5,7 @@ use mathlib.Core.Path.{ap, _∙_}
 use native.Mathlib.Omega.{arith}
 use lib.IntN.{ℤ}
 use lib.ListN.{length-take}
-use Rattle.hausdorff.specs.Call.{comparison}
+use Rattle.hausdorff.specs.code.Call.{comparison}
 use Rattle.fit_text.specs.declared.parsing.Outcome.the-variants.{Compared}
 use Rattle.fit_text.specs.Input.{allowance}
 use Rattle.fit_text.proofs.InputLaws.{given-case, has-room}

@@ -1,9 +1,10 @@
--- `integers::fraction::compare` answers the order of the cross products: each arm's answer is what `order-by-parts` says.
+-- `integers::fraction::compare` answers the order of the cross products: each arm's answer is what `order-by-parts`
+-- says.
 use borrow.Author.Needs.{needs}
 use mathlib.Core.Path.{_≡_, _∙_}
 use Prim.Native.Nat.{ℕ, _/_, _%_, _^_}
 use Rattle.integers.proofs.FractionLaws.{order-by-parts, then}
-use Rattle.integers.specs.Fraction.{order}
+use Rattle.integers.specs.code.Fraction.{order}
 use Rattle.integers.specs.declared.fraction.Parts.{Parts}
 use Rattle.integers.specs.declared.fraction.Order.{Order}
 use Rattle.integers.specs.declared.fraction.Order.the-variants.{Less, Equal, Greater}

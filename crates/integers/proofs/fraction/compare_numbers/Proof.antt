@@ -1,4 +1,5 @@
--- `integers::fraction::compare_numbers` answers the order of its two numbers: each branch's tests say what its answer means.
+-- `integers::fraction::compare_numbers` answers the order of its two numbers: each branch's tests say what its
+-- answer means.
 use mathlib.Core.Path.{sym}
 use native.Mathlib.Omega.{arith}
 use Rattle.integers.proofs.FractionLaws.{order-unique}

@@ -1,4 +1,5 @@
--- `integers::fraction::product` answers the parts of the product, by `product-parts`, and what it computes fits 64 bits.
+-- `integers::fraction::product` answers the parts of the product, by `product-parts`, and what it computes fits 64
+-- bits.
 use native.Mathlib.Omega.{arith}
 use Rattle.integers.proofs.FractionLaws.{low-fits, high-fits, product-parts}
 use Rattle.integers.proofs.fraction.product.Statement.{statement}

@@ -4,7 +4,7 @@ use borrow.Fn.Kinds.{In}
 use borrow.Fn.PlainCycle.{Measures, is, falls, and}
 use native.Mathlib.Omega.{arith}
 use Prim.Native.Nat.{ℕ, _<_}
-use Rattle.integers.specs.Root.{rootBy}
+use Rattle.integers.specs.code.Root.{rootBy}
 use Rattle.integers.proofs.RootLaws.{root-odd, root-even, odd-fits}
 use Rattle.integers.proofs.root.root.Reads as root
 use Rattle.integers.proofs.root.root.Kinds as root-kinds

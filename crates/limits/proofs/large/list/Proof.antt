@@ -1,4 +1,5 @@
--- `limits::large::list` is safe: y is i (i - 1) / 2, which is below 8002; that it is at most 127 i keeps y + i in range.
+-- `limits::large::list` is safe: y is i (i - 1) / 2, which is below 8002; that it is at most 127 i keeps y + i in
+-- range.
 use borrow.Author.Needs.{needs}
 use Prim.Native.Nat.{_+_, _*_, _-_, _≤_}
 use mathlib.Core.Path.{_≡_}

@@ -1,6 +1,6 @@
 -- `projection::answers::at_corner` puts the answer together; the squared distance keeps its size as a u64.
 use borrow.Author.Needs.{needs}
-use Rattle.plane.specs.Range.{Span, reach}
+use Rattle.plane.specs.code.Range.{Span, reach}
 use Rattle.plane.proofs.Range.{span-difference}
 use Rattle.nearest.specs.declared.Feature.the-variants as Feature
 use Rattle.projection.proofs.Sizes.{length-cast, length-exact}

@@ -4,7 +4,8 @@ use lib.IntN.{ℤ, _+ℤ_, _*ℤ_}
 use mir.Syntax.{w32, w64}
 use Rattle.integers.specs.Size.{AtMost}
 use Rattle.integers.proofs.Machine.{i32, i64, Exact, value, stored, plus, times, fits}
-use Rattle.plane.specs.Range.{limit, reach, productLimit}
+use Rattle.plane.specs.Range.{limit}
+use Rattle.plane.specs.code.Range.{reach, productLimit}
 use Rattle.projection.proofs.answers.coordinate.Statement.{statement}
 use Rattle.projection.proofs.answers.coordinate.Tie as tie
 

@@ -7,7 +7,8 @@ use mir.Syntax.{w32, w64}
 use Rattle.integers.specs.Size.{AtMost}
 use Rattle.integers.proofs.Machine.{i32, i64, Exact, value, stored, plus, times}
 use Rattle.plane.specs.declared.Vector.{Vector}
-use Rattle.plane.specs.Range.{Span, limit, reach, productLimit}
+use Rattle.plane.specs.code.Range.{Span, reach, productLimit}
+use Rattle.plane.specs.Range.{limit}
 use Rattle.plane.specs.Vector.{dot}
 use Rattle.plane.proofs.Arithmetic.{dot-local}
 use Rattle.projection.proofs.Sizes.{length-cast, length-exact}

@@ -9,9 +9,10 @@ use mir.Syntax.{w64}
 use mir.Val.{SFits}
 use Rattle.integers.proofs.Order.{ltZ-true, ltZ-false, ≤ℤ-leZ, <ℤ-leZ}
 use Rattle.plane.specs.declared.Corner.{Corner}
-use Rattle.plane.specs.Vector.{_⇀_, dot, same}
+use Rattle.plane.specs.Vector.{_⇀_, dot}
+use Rattle.plane.specs.code.Tests.{same}
 use Rattle.plane.proofs.Range.{span-difference}
-use Rattle.nearest.specs.Local.{cornerIsNearest}
+use Rattle.nearest.specs.code.Local.{cornerIsNearest}
 use Rattle.projection.proofs.local.corner_is_nearest.Statement.{statement}
 use Rattle.projection.proofs.local.corner_is_nearest.Tie as tie
 

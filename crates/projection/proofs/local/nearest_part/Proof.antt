@@ -4,10 +4,11 @@ use borrow.Author.Tests.{not-true, not-false}
 use mathlib.Core.Bool.{true, false, not}
 use mathlib.Core.Path.{_≡_}
 use Rattle.plane.specs.declared.Corner.{Corner}
-use Rattle.plane.specs.Vector.{_⇀_, isRight}
+use Rattle.plane.specs.Vector.{_⇀_}
+use Rattle.plane.specs.code.Tests.{isRight}
 use Rattle.plane.proofs.Range.{span-difference}
 use Rattle.projection.specs.declared.local.Part.the-variants.{None, Start, Between, End}
-use Rattle.nearest.specs.Local.{footIsBetween, cornerIsNearest}
+use Rattle.nearest.specs.code.Local.{footIsBetween, cornerIsNearest}
 use Rattle.projection.specs.Part.{nearestPart}
 use Rattle.projection.proofs.local.nearest_part.Statement.{statement}
 use Rattle.projection.proofs.local.nearest_part.Tie as tie

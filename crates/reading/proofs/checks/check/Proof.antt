@@ -7,10 +7,10 @@ use Rattle.outline.specs.declared.Refusal.{Refusal}
 use Rattle.outline.specs.declared.RefusedSide.{RefusedSide}
 use Rattle.outline.specs.declared.Verdict.{Verdict}
 use Rattle.outline.specs.declared.Verdict.the-variants.{Taken, Refused}
-use Rattle.outline.specs.Checks.{first}
+use Rattle.outline.specs.code.Checks.{first}
 use Rattle.outline.specs.Convex.{AllInRange}
 use Rattle.outline.specs.Corners.{corners}
-use Rattle.outline.specs.Reading.{lengthChecks, checkRange, cornerChecks, check}
+use Rattle.outline.specs.code.Reading.{lengthChecks, checkRange, cornerChecks, check}
 use Rattle.outline.proofs.ChecksLaws.{first-stops, first-goes-on, first-last, append-stops, append-goes-on}
 use Rattle.outline.proofs.Acceptance.{range-taken}
 use Rattle.reading.proofs.checks.check.Statement.{statement}

@@ -7,14 +7,15 @@ use native.Mathlib.Omega.{arith}
 use Prim.Native.Nat.{ℕ, _<_, _-_}
 use lib.ListN.{length}
 use Rattle.plane.specs.declared.Corner.{Corner}
-use Rattle.plane.specs.Range.{InRange, Span, reach}
+use Rattle.plane.specs.Range.{InRange}
+use Rattle.plane.specs.code.Range.{Span, reach}
 use Rattle.reading.specs.declared.checks.Edge.{Edge}
 use Rattle.outline.specs.declared.Place.the-variants.{EdgeAndCorner}
 use Rattle.outline.specs.Conditions.{notLeft}
 use Rattle.outline.specs.Convex.{AllInRange}
 use Rattle.outline.specs.Corners.{corners, corner}
 use Rattle.reading.specs.Edge.{edgeOf, isNotLeftOf}
-use Rattle.outline.specs.Reading.{isNotLeft, checkEdge}
+use Rattle.outline.specs.code.Reading.{isNotLeft, checkEdge}
 use Rattle.outline.specs.Refusal.{refusal}
 use Rattle.outline.proofs.ChecksLaws.{Testing, test-start, test-on, test-found, testing}
 use Rattle.outline.proofs.EdgeLaws.{edge-span}

@@ -4,7 +4,7 @@ use mathlib.Core.Path.{refl}
 use native.Mathlib.Omega.{arith}
 use Prim.Native.Nat.{_-_}
 use Rattle.outline.specs.Corners.{corners}
-use Rattle.outline.specs.Reading.{checkEdge, checkConvex}
+use Rattle.outline.specs.code.Reading.{checkEdge, checkConvex}
 use Rattle.outline.proofs.ChecksLaws.{Scanning, scan-start, scanning}
 use Rattle.reading.proofs.checks.check_edges.Statement.{statement}
 use Rattle.reading.proofs.checks.check_edges.Tie as tie

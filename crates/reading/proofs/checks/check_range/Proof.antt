@@ -6,7 +6,7 @@ use Prim.Native.Nat.{_-_}
 use Rattle.outline.specs.declared.Place.the-variants.{At}
 use Rattle.outline.specs.Conditions.{outOfRange}
 use Rattle.outline.specs.Corners.{corners}
-use Rattle.outline.specs.Reading.{isOutOfRange, checkRange}
+use Rattle.outline.specs.code.Reading.{isOutOfRange, checkRange}
 use Rattle.outline.specs.Refusal.{refusal}
 use Rattle.outline.proofs.ChecksLaws.{Testing, test-start, testing}
 use Rattle.reading.proofs.checks.check_range.Statement.{statement}

@@ -13,7 +13,7 @@ use Rattle.plane.specs.Vector.{_⇀_}
 use Rattle.plane.proofs.Range.{span-difference}
 use Rattle.outline.specs.Convex.{AllInRange}
 use Rattle.outline.specs.Corners.{corners, corner}
-use Rattle.outline.specs.Turns.{keepsLeft, keepsLeftAt, isConvex}
+use Rattle.outline.specs.code.Turns.{keepsLeft, keepsLeftAt, isConvex}
 use Rattle.lists.specs.Fold.{fold}
 use Rattle.lists.proofs.FoldLaws.{Passing, pass-start, pass-on, pass-stop, pass-all}
 use Rattle.reading.proofs.checks.is_convex.Statement.{statement}

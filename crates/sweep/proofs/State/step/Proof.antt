@@ -2,7 +2,8 @@
 -- the next edge.
 use borrow.Author.Tests.{not-true}
 use Rattle.measuring.proofs.WindowLaws.{window-range}
-use Rattle.sweep.proofs.StepLaws.{step-measurable, step-bounded, step-passable, measured-passable, unchanged-after, step-after}
+use Rattle.sweep.proofs.StepLaws.{step-measurable, step-bounded, step-passable, measured-passable}
+use Rattle.sweep.proofs.StepLaws.{unchanged-after, step-after}
 use Rattle.sweep.proofs.State.step.Statement.{statement}
 use Rattle.sweep.proofs.State.step.Tie as tie
 

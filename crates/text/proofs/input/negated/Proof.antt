@@ -9,7 +9,8 @@ use Rattle.integers.specs.Size.{AtMost}
 use Rattle.integers.proofs.Machine.{Exact, i32, value, stored, minus, fits}
 use Rattle.text.specs.declared.input.Parsed.{Parsed}
 use Rattle.text.specs.declared.input.Parsed.the-variants.{Number}
-use Rattle.text.specs.Number.{negated, IsShort}
+use Rattle.text.specs.Number.{negated}
+use Rattle.text.specs.code.Number.{IsShort}
 use Rattle.text.proofs.input.negated.Statement.{statement}
 use Rattle.text.proofs.input.negated.Tie as tie
 

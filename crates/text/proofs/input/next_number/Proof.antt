@@ -9,7 +9,8 @@ use lib.ListN.{length, take, drop, length-drop, drop-of-length-le}
 use Rattle.text.specs.declared.input.Parsed.{Parsed}
 use Rattle.text.specs.declared.input.Parsed.the-variants.{Invalid}
 use Rattle.text.specs.Number.{number, firstNumber}
-use Rattle.text.specs.Words.{run, words}
+use Rattle.text.specs.Words.{words}
+use Rattle.text.specs.code.Words.{run}
 use Rattle.text.proofs.WordLaws.{run-≤, words-none, next-word, no-word, past-words}
 use Rattle.text.proofs.input.next_number.Statement.{statement}
 use Rattle.text.proofs.input.next_number.Tie as tie

@@ -6,7 +6,7 @@ use mathlib.Core.Path.{_≡_, refl, sym, _∙_}
 use native.Mathlib.Omega.{arith}
 use Prim.Native.Nat.{_+_, _-_}
 use lib.ListN.{length, getD, drop}
-use Rattle.text.specs.Words.{isOf, run}
+use Rattle.text.specs.code.Words.{isOf, run}
 use Rattle.text.proofs.WordLaws.{run-more, run-stops, run-past}
 use Rattle.text.proofs.input.run_end.Statement.{statement}
 use Rattle.text.proofs.input.run_end.Tie as tie

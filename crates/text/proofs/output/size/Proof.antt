@@ -1,4 +1,5 @@
--- `text::output::size`: of a number -(k + 1) the code's difference is k, which fits a signed number, and k + 1 is its size.
+-- `text::output::size`: of a number -(k + 1) the code's difference is k, which fits a signed number, and k + 1 is
+-- its size.
 use Prim.Native.Nat.{suc, _+_}
 use mathlib.Core.Path.{_≡_, _∙_}
 use native.Mathlib.Omega.{arith}

@@ -8,7 +8,7 @@ use native.Mathlib.Omega.{arith}
 use lib.Dec.{lit<}
 use Rattle.text.specs.declared.output.Text.{Text}
 use Rattle.text.specs.Decimal.{decimal}
-use Rattle.text.specs.Output.{pushed, appended}
+use Rattle.text.specs.code.Output.{pushed, appended}
 use Rattle.text.proofs.DecimalLaws.{decimal-small, decimal-more}
 use Rattle.text.proofs.OutputLaws.{appended-snoc}
 use Rattle.text.proofs.output.Text.natural.Reads as natural

@@ -8,7 +8,7 @@ use Prim.Native.Nat.{ℕ, _+_, _-_, _≤_, _<_}
 use lib.ListN.{length, getD, drop, drop-of-length-le}
 use lib.Seq.{drop-cons}
 use Rattle.text.specs.declared.output.Text.{Text}
-use Rattle.text.specs.Output.{pushed, appended}
+use Rattle.text.specs.code.Output.{pushed, appended}
 use Rattle.text.proofs.output.Text.bytes.Statement.{statement}
 use Rattle.text.proofs.output.Text.bytes.Tie as tie
 

@@ -1,7 +1,8 @@
 -- `Text::push` puts the byte to the first unused place, if there is one.
 use borrow.Author.Needs.{needs}
 use borrow.Author.Tests.{lt-ltb, le-ltb}
-use Rattle.text.specs.Output.{room, pushed}
+use Rattle.text.specs.Output.{room}
+use Rattle.text.specs.code.Output.{pushed}
 use Rattle.text.proofs.output.Text.push.Statement.{statement}
 use Rattle.text.proofs.output.Text.push.Tie as tie
 

@@ -13,7 +13,7 @@ use mir.ValLaws.{toZ-ofZ}
 use Rattle.text.specs.declared.output.Text.{Text}
 use Rattle.text.specs.Ascii.{ascii}
 use Rattle.text.specs.Decimal.{decimal, signedDecimal}
-use Rattle.text.specs.Output.{appended}
+use Rattle.text.specs.code.Output.{appended}
 use Rattle.integers.proofs.Order.{ltZ-true, ltZ-false}
 use Rattle.text.proofs.DecimalLaws.{signed-below, signed-above}
 use Rattle.text.proofs.OutputLaws.{appended-append}

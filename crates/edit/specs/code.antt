@@ -1,0 +1,3 @@
+-- For code and proofs alone.
+pub mod Removal
+pub mod Writing

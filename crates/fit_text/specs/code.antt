@@ -1,0 +1,2 @@
+-- For code and proofs alone.
+pub mod Input

@@ -1,0 +1,44 @@
+-- What a comparison of two accepted outlines gives for a step allowance, computed: `proofs/Law.antt` shows that it
+-- obeys the law.
+use Prim.Native.Nat.{ℕ, _/_}
+use mathlib.Core.Bool.{cond}
+use lib.Dec.{ltb}
+use Rattle.integers.specs.declared.fraction.Fraction.{Fraction}
+use Rattle.integers.specs.code.Root.{root}
+use Rattle.outline.specs.Corners.{corner}
+use Rattle.outline.specs.declared.Side.the-variants.{A, B}
+use Rattle.hausdorff.specs.declared.CornerGap.{CornerGap}
+use Rattle.hausdorff.specs.declared.Spent.{Spent}
+use Rattle.hausdorff.specs.declared.Done.{Done}
+use Rattle.hausdorff.specs.declared.Report.{Report}
+use Rattle.hausdorff.specs.declared.Report.the-variants as Report
+use Rattle.hausdorff.specs.Pair.{Pair, stepCount}
+use Rattle.hausdorff.specs.Law.{orWithin}
+use Rattle.hausdorff.specs.code.Sweep.{worstSoFar}
+use Rattle.hausdorff.specs.Support.{supportAfter}
+
+-- the clearance of a gap. A whole number's square is not above a fraction exactly where it is not above its
+-- whole part
+abbrev pub clearance : Fraction → ℕ
+clearance g = root (g .upper / g .lower)
+
+-- the worst so far after step N, or A's corner 0, within, if that is none
+abbrev pub answer : Pair → CornerGap
+answer pair = orWithin (corner (pair A) 0) (worstSoFar pair (stepCount pair))
+
+-- the steps made (equal to the allowance), both support corners, and the worst so far or none
+abbrev pub spent : Pair → ℕ → Spent
+spent pair allowance = record {
+  steps = allowance;
+  support = record { a = supportAfter pair allowance A; b = supportAfter pair allowance B };
+  worst = worstSoFar pair allowance;
+}
+
+-- the steps made (equal to N), the answer and its clearance
+abbrev pub done : Pair → Done
+done pair = record { steps = stepCount pair; answer = answer pair; clearance = clearance (answer pair .gap) }
+
+-- spent if the allowance is below N, otherwise done
+unfoldable pub report : Pair → ℕ → Report
+report pair allowance =
+    cond (ltb allowance (stepCount pair)) (Report.Spent (spent pair allowance)) (Report.Done (done pair))

@@ -1,0 +1,34 @@
+-- The worst so far, computed. One is kept for each side; rule 5.7's is the worse of the two (`overall`).
+use Prim.Native.Nat.{ℕ}
+use mathlib.Core.Bool.{Bool, cond, not, _&&_, _||_}
+use lib.Dec.{ltb}
+use Rattle.integers.specs.Fraction.{isLess}
+use Rattle.outline.specs.declared.Side.{Side}
+use Rattle.hausdorff.specs.declared.CornerGap.{CornerGap}
+use Rattle.hausdorff.specs.declared.WorstSoFar.{WorstSoFar}
+use Rattle.hausdorff.specs.declared.WorstSoFar.the-variants.{None, Worst}
+use Rattle.hausdorff.specs.Pair.{Pair}
+use Rattle.hausdorff.specs.CornerGap.{worse}
+
+-- the number that a corner is listed under, by which the rule tells equals apart: its own
+abbrev pub shownNumber : Pair → Side → ℕ → ℕ
+shownNumber pair s i = i
+
+-- a corner takes the place of another of its side: its gap is greater, or equal and its shown number lower. The
+-- rule goes by the corner alone, not by when it was found
+abbrev pub takesPlace : (ℕ → ℕ) → CornerGap → CornerGap → Bool
+takesPlace shown new old =
+    isLess (old .gap) (new .gap)
+    || (not (isLess (new .gap) (old .gap)) && ltb (shown (new .corner)) (shown (old .corner)))
+
+-- the worst so far of a side, with what a step adds
+abbrev pub keep : (ℕ → ℕ) → WorstSoFar → WorstSoFar → WorstSoFar
+keep shown None new = new
+keep shown (Worst old) None = Worst old
+keep shown (Worst old) (Worst new) = Worst (cond (takesPlace shown new old) new old)
+
+-- the worse of A's and B's; A's where their gaps are equal
+abbrev pub overall : WorstSoFar → WorstSoFar → WorstSoFar
+overall None b = b
+overall (Worst a) None = Worst a
+overall (Worst a) (Worst b) = Worst (worse a b)

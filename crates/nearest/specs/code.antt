@@ -1,0 +1,4 @@
+-- For code and proofs alone.
+pub mod Local
+pub mod Scaling
+pub mod Call

@@ -1,0 +1,6 @@
+-- For code and proofs alone.
+pub mod Polygon
+pub mod Held
+pub mod Checks
+pub mod Turns
+pub mod Reading

@@ -1,0 +1,2 @@
+-- What the calls for the benchmarks answer.
+pub mod Answers
