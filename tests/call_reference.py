@@ -1,4 +1,4 @@
-"""Reading an outline, the nearest point and removing a corner, from the specification alone, and the C functions, from
+"""Reading an outline, the nearest point and removing a corner, from the requirements alone, and the C functions, from
 embed/ravinebowl.h alone.
 
 Written apart from the proved code, for comparison with it. `answers` gives the lines that the program `call_cases`

@@ -1,4 +1,4 @@
-"""The program fit, from the specification alone: `fit(data)` takes the bytes of standard input and gives the bytes that it must write.
+"""The program fit, from the requirements alone: `fit(data)` takes the bytes of standard input and gives the bytes that it must write.
 
 Written apart from the proved code, for comparison with it. Comparing is `reference.py`'s, every corner against every edge.
 """

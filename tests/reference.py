@@ -1,4 +1,4 @@
-"""Comparing two outlines, from the specification alone: whole numbers only, every corner against every edge.
+"""Comparing two outlines, from the requirements alone: whole numbers only, every corner against every edge.
 
 Written apart from the proved code, for comparison with it. `compare(a, b, allowance)` takes two lists of numbers and gives the text that
 the program `pairs` prints for them:
