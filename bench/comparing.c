@@ -20,15 +20,16 @@ typedef struct {
 
 static uint64_t greater(uint64_t a, uint64_t b) { return a < b ? b : a; }
 
-/* Each way, some times over. A comparison gives the upper number of its gap, reading how many corners both have, and all
-   turns together the greatest. */
+/* Each way, some times over. A comparison gives the upper number of its gap and the clearance, added, so that both are
+   computed; reading how many corners both have; and all turns together the greatest. */
 static uint64_t call(const Pair *p, uint32_t turns) {
     uint64_t greatest = 0;
     for (uint32_t i = 0; i < turns; i++) {
         int64_t result[RAVINEBOWL_COMPARE_LENGTH];
         struct ravinebowl_status status = ravinebowl_compare(&p->a[0].x, 2 * p->n, &p->b[0].x, 2 * p->n,
                                                              RAVINEBOWL_ENOUGH_STEPS, result, RAVINEBOWL_COMPARE_LENGTH);
-        if (status.code == RAVINEBOWL_ANSWERED) greatest = greater(greatest, result[RAVINEBOWL_COMPARE_GAP_UPPER]);
+        if (status.code == RAVINEBOWL_ANSWERED)
+            greatest = greater(greatest, result[RAVINEBOWL_COMPARE_GAP_UPPER] + result[RAVINEBOWL_COMPARE_CLEARANCE]);
     }
     return greatest;
 }
@@ -47,7 +48,7 @@ static uint64_t plain(const Pair *p, uint32_t turns) {
     for (uint32_t i = 0; i < turns; i++) {
         __asm__ volatile("" ::: "memory");
         Done done = plain_sweep(p->a, p->n, p->b, p->n);
-        greatest = greater(greatest, done.answer.gap.upper);
+        greatest = greater(greatest, done.answer.gap.upper + done.clearance);
     }
     return greatest;
 }
@@ -56,7 +57,8 @@ static uint64_t exhaustive(const Pair *p, uint32_t turns) {
     uint64_t greatest = 0;
     for (uint32_t i = 0; i < turns; i++) {
         __asm__ volatile("" ::: "memory");
-        greatest = greater(greatest, plain_search(p->a, p->n, p->b, p->n).gap.upper);
+        Gap answer = plain_search(p->a, p->n, p->b, p->n);
+        greatest = greater(greatest, answer.gap.upper + clearance(answer.gap));
     }
     return greatest;
 }

@@ -111,6 +111,12 @@ static uint64_t root(uint64_t n) {
     return r;
 }
 
+/* The smallest whole number whose square is not below the gap. */
+static uint64_t clearance(Fraction gap) {
+    uint64_t r = root(gap.upper / gap.lower);
+    return r * r * gap.lower < gap.upper ? r + 1 : r;
+}
+
 static Gap zero_within(Corner v) { return (Gap){.kind = WITHIN, .gap = {0, 1}, .x = v.x, .y = v.y}; }
 
 /* The worse of A's and B's or, where both are none, A's corner 0, within. */
@@ -136,7 +142,7 @@ static Done plain_sweep(const Corner *a, size_t n, const Corner *b, size_t m) {
         }
     }
     Gap answer = overall(worst_a, worst_b, a[0]);
-    return (Done){n + m, answer, root(answer.gap.upper / answer.gap.lower)};
+    return (Done){n + m, answer, clearance(answer.gap)};
 }
 
 static int is_within(Corner v, const Corner *o, size_t n) {

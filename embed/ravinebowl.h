@@ -102,8 +102,8 @@ enum ravinebowl_compare_place {
     RAVINEBOWL_COMPARE_X = 10,             /* the nearest point is at X / D and Y / D */
     RAVINEBOWL_COMPARE_Y = 11,
     RAVINEBOWL_COMPARE_D = 12,
-    RAVINEBOWL_COMPARE_CLEARANCE = 13,     /* done: the largest whole number of millimetres whose square is not above the gap, so not above
-                                            * the distance, and below it by less than 1 mm; spent: -1 */
+    RAVINEBOWL_COMPARE_CLEARANCE = 13,     /* done: the smallest whole number of millimetres whose square is not below the gap, so not below
+                                            * the distance, and above it by less than 1 mm; at most 45,255. Spent: -1 */
     RAVINEBOWL_COMPARE_LENGTH = 14
 };
 

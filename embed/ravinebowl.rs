@@ -97,8 +97,9 @@ pub struct CornerGap {
     pub nearest: NearestPoint,
 }
 
-/// What comparing gives. Done: the corner of greatest gap, and the largest whole number whose square is not above that gap.
-/// Spent: the allowance was below the number of edges; the support corners and the worst so far, if there is one.
+/// What comparing gives. Done: the corner of greatest gap, and the clearance, the smallest whole number of millimetres whose
+/// square is not below that gap, at most 45,255. Spent: the allowance was below the number of edges; the support corners and
+/// the worst so far, if there is one.
 #[derive(Clone, Copy, Debug, PartialEq, Eq)]
 pub enum Comparison {
     Done {

@@ -6,13 +6,15 @@ cases, and for each how many numbers A's list has and the numbers, the same of B
 point, the length of the result list for its nearest point, a corner number in two parts (over 2^32, and the rest), the
 length of the list to write in removing it, an allowance, and the length of the result list of comparing.
 """
+from collections import Counter
 from pathlib import Path
 
 from call_reference import COMPARE_LENGTH, NEAREST_LENGTH, answers, c_compare, line
 from call_reference import nearest_point, read_outline, remove_corner
 from fit import spoiled
 from pairs import CLOCKWISE, LARGEST, LARGEST_ALLOWANCE, LOWER, MOVED, SQUARE, STAR, STRAIGHT, TRIANGLE, TURNED, UPPER
-from pairs import Random, beside, from_corner, from_edges, large, middling, near_tie, numbers, opposite, small
+from pairs import Random, beside, from_corner, from_edges, large, middling, near_tie, numbers, opposite, rounded
+from pairs import roundings, small
 from reference import LIMIT, corners, edge, is_within, minus, refusal, side_number
 
 SEED = 20261116
@@ -38,6 +40,7 @@ STATED = [
     (remove_corner(SQUARE, 1, 6), "remove done list 0 0 4 4 0 4"),
     (remove_corner(TRIANGLE, 1, 4), "remove refused 2 list 77 77 77 77"),
     (c_compare(SQUARE, TRIANGLE, 4, COMPARE_LENGTH), "c_compare 0 0 0 0 0 list 1 4 2 2 1 2 2 1 256 32 64 64 32 -1"),
+    (c_compare(SQUARE, TRIANGLE, 7, COMPARE_LENGTH), "c_compare 0 0 0 0 0 list 0 7 -1 -1 1 2 2 1 256 32 64 64 32 3"),
     (c_compare(SQUARE, MOVED, 8, COMPARE_LENGTH), "c_compare 0 0 0 0 0 list 0 8 -1 -1 1 0 1 0 100 1 10 0 1 10"),
 ]
 
@@ -151,6 +154,10 @@ def cases():
     for a, b in generated(random):
         a, b = numbers(a), numbers(b)
         yield a, b, numbers_for(random, a, b)
+    # The pairs for rounding, exchanged, and the nearest point to the corner that has the gap.
+    for b, a, _ in rounded():
+        x, y = next(corner for corner in b if corner not in a)
+        yield numbers(a), numbers(b), [x, y, NEAREST_LENGTH, 0, 2 * len(a) - 2, len(a) + len(b), COMPARE_LENGTH]
 
 
 def kinds(text):
@@ -195,6 +202,14 @@ def check_coverage(given):
     assert sum(on_border(v, piece) for v, piece in points) >= 10
     assert sum(is_within(v, piece) and not on_border(v, piece) for v, piece in points) >= 10
     assert max(out_length for _, _, (*_, out_length, _, _) in given) <= LONGEST_LIST
+    # Comparisons that are done: the gap is in places 8 and 9 of the list, the clearance in place 13.
+    lists = [answers(*one)[-1].partition(" list ") for one in given]
+    done = [[int(n) for n in places.split()] for status, _, places in lists if status == "c_compare 0 0 0 0 0"]
+    done = [places for places in done if places[0] == 0]
+    counted = Counter()
+    for places in done:
+        counted.update(roundings(places[8], places[9]))
+    assert min(counted.values()) >= 1 and max(places[13] for places in done) == 45255, counted
 
 
 def main():

@@ -16,12 +16,12 @@ END = b"\xff"
 # The example of the specification, and exactly what it prints.
 EXAMPLE = b"4 0 0 4 0 4 4 0 4 3 0 0 4 0 0 4"
 EXAMPLE_PRINTED = b"""gap 256/32
-mm 2
+mm 3
 from A 2
 to edge 1 at 64/32 64/32
 steps 7
 """
-SAME_AS_EXAMPLE = "gap 256/32, mm 2, from A 2, to edge 1 at 64/32 64/32, steps 7"
+SAME_AS_EXAMPLE = "gap 256/32, mm 3, from A 2, to edge 1 at 64/32 64/32, steps 7"
 
 
 def text(*lists):
@@ -42,42 +42,42 @@ FEATURES = [
     (text(SQUARE, SQUARE), "gap 0/1, mm 0, from A 0, to within at 0/1 0/1, steps 8"),
     (text(SQUARE, TURNED), "gap 0/1, mm 0, from A 0, to within at 0/1 0/1, steps 8"),
     (text(TURNED, SQUARE), "gap 0/1, mm 0, from A 0, to within at 4/1 0/1, steps 8"),
-    (text(LOWER, UPPER), "gap 4095872001/2, mm 45254, from A 0, to edge 1 at 31999/2 31999/2, steps 6"),
-    (text([0, 0, 9, 0, 6, 6], [0, 0, 9, 0, 0, 3]), "gap 2025/90, mm 4, from A 2, to edge 1 at 405/90 135/90, steps 6"),
-    (text([0, 0, 9, 0, 12, 9], [0, 0, 9, 0, 0, 3]), "gap 90/1, mm 9, from A 2, to corner 1 at 9/1 0/1, steps 6"),
+    (text(LOWER, UPPER), "gap 4095872001/2, mm 45255, from A 0, to edge 1 at 31999/2 31999/2, steps 6"),
+    (text([0, 0, 9, 0, 6, 6], [0, 0, 9, 0, 0, 3]), "gap 2025/90, mm 5, from A 2, to edge 1 at 405/90 135/90, steps 6"),
+    (text([0, 0, 9, 0, 12, 9], [0, 0, 9, 0, 0, 3]), "gap 90/1, mm 10, from A 2, to corner 1 at 9/1 0/1, steps 6"),
     # 16,000 is taken.
-    (text(LARGEST, SQUARE), "gap 512000000/1, mm 22627, from A 0, to corner 0 at 0/1 0/1, steps 8"),
+    (text(LARGEST, SQUARE), "gap 512000000/1, mm 22628, from A 0, to corner 0 at 0/1 0/1, steps 8"),
     # The worst corner is B's: over an edge; over a corner, A in B.
-    (text(TRIANGLE, SQUARE), "gap 256/32, mm 2, from B 2, to edge 1 at 64/32 64/32, steps 7"),
-    (text(SQUARE, [-10, -10, 10, -10, 10, 10, -10, 10]), "gap 200/1, mm 14, from B 0, to corner 0 at 0/1 0/1, steps 8"),
+    (text(TRIANGLE, SQUARE), "gap 256/32, mm 3, from B 2, to edge 1 at 64/32 64/32, steps 7"),
+    (text(SQUARE, [-10, -10, 10, -10, 10, 10, -10, 10]), "gap 200/1, mm 15, from B 0, to corner 0 at 0/1 0/1, steps 8"),
     # The nearest point has negative coordinates: on a corner, on an edge, within.
-    (text(SQUARE, [-9, -20, -5, -20, -5, -16, -9, -16]), "gap 481/1, mm 21, from A 2, to corner 2 at -5/1 -16/1, steps 8"),
-    (text(UPPER, LOWER), "gap 4095872001/2, mm 45254, from A 0, to edge 1 at -31999/2 -31999/2, steps 6"),
+    (text(SQUARE, [-9, -20, -5, -20, -5, -16, -9, -16]), "gap 481/1, mm 22, from A 2, to corner 2 at -5/1 -16/1, steps 8"),
+    (text(UPPER, LOWER), "gap 4095872001/2, mm 45255, from A 0, to edge 1 at -31999/2 -31999/2, steps 6"),
     (text([-9, -9, -5, -9, -7, -5], [-5, -9, -7, -5, -9, -9]), "gap 0/1, mm 0, from A 0, to within at -9/1 -9/1, steps 6"),
     # Large fractions: over an edge nearly from one end of the range to the other, far from it and close to its end.
     (text([-16000, -16000, 16000, -16000, -16000, 16000], [-16000, -16000, 15999, 16000, -16000, 16000]),
-     "gap 1048576000000000000/2047936001, mm 22627, from A 1, to edge 0 at -1023984000/2047936001 -16000/2047936001, steps 6"),
+     "gap 1048576000000000000/2047936001, mm 22628, from A 1, to edge 0 at -1023984000/2047936001 -16000/2047936001, steps 6"),
     (text([16000, 16000, -16000, -15990, -15999, -16000, 16000, -16000], [16000, 16000, -15999, -16000, 16000, -16000]),
-     "gap 123896960100/2047936001, mm 7, from A 1, to edge 0 at -32755712336000/2047936001 -32757759984000/2047936001, steps 7"),
+     "gap 123896960100/2047936001, mm 8, from A 1, to edge 0 at -32755712336000/2047936001 -32757759984000/2047936001, steps 7"),
     # A gap below 1, and gaps at and beside the square of a whole number.
-    (text([0, 0, 1, 0, 1, 1, 0, 1], [0, 0, 1, 0, 0, 1]), "gap 1/2, mm 0, from A 2, to edge 1 at 1/2 1/2, steps 7"),
+    (text([0, 0, 1, 0, 1, 1, 0, 1], [0, 0, 1, 0, 0, 1]), "gap 1/2, mm 1, from A 2, to edge 1 at 1/2 1/2, steps 7"),
     (text([0, 0, 4, 0, 4, 4, 0, 5], SQUARE), "gap 1/1, mm 1, from A 3, to corner 3 at 0/1 4/1, steps 8"),
-    (text([0, 0, 3, 0, 5, 2, 0, 4], [0, 0, 3, 0, 0, 4]), "gap 196/25, mm 2, from A 2, to edge 1 at 69/25 8/25, steps 7"),
+    (text([0, 0, 3, 0, 5, 2, 0, 4], [0, 0, 3, 0, 0, 4]), "gap 196/25, mm 3, from A 2, to edge 1 at 69/25 8/25, steps 7"),
     (text([0, 0, 3, 0, 3, 5, 0, 4], [0, 0, 3, 0, 0, 4]), "gap 225/25, mm 3, from A 2, to edge 1 at 15/25 80/25, steps 7"),
     # Equal gaps: the lower number although it comes later in the angular order; 8/1 before 256/32, and after it.
     (text([1, -1, 1, 1, -1, 1, -1, -1], [11, -1, 11, 1, 9, 1, 9, -1]), "gap 100/1, mm 10, from A 2, to corner 2 at 9/1 1/1, steps 8"),
-    (text([-2, -2, 4, 0, 4, 4, 0, 4], TRIANGLE), "gap 8/1, mm 2, from A 0, to corner 0 at 0/1 0/1, steps 7"),
-    (text([4, 4, 0, 4, -2, -2, 4, 0], TRIANGLE), "gap 256/32, mm 2, from A 0, to edge 1 at 64/32 64/32, steps 7"),
+    (text([-2, -2, 4, 0, 4, 4, 0, 4], TRIANGLE), "gap 8/1, mm 3, from A 0, to corner 0 at 0/1 0/1, steps 7"),
+    (text([4, 4, 0, 4, -2, -2, 4, 0], TRIANGLE), "gap 256/32, mm 3, from A 0, to edge 1 at 64/32 64/32, steps 7"),
     # Gaps that are equal as floats: A0's is smaller than A2's by less than a part in 2^53.
     (text([7102, -10352, 0, -1205, -8645, -8007], [0, -10458, 6452, -461, -6821, 26]),
-     "gap 5463561603296281/156440297, mm 5909, from A 2, to edge 2 at -577491977609/156440297 -748437042790/156440297, steps 6"),
+     "gap 5463561603296281/156440297, mm 5910, from A 2, to edge 2 at -577491977609/156440297 -748437042790/156440297, steps 6"),
     # A crosses B, no corner within the other.
     (text([-9, -1, 9, -1, 9, 1, -9, 1], [-1, -5, 1, -5, 1, 5, -1, 5]),
      "gap 6400/100, mm 8, from A 0, to edge 3 at -100/100 -100/100, steps 8"),
     # 256 corners: one above the other, the second turned over, and against three.
     (text(ROUND, RAISED), "gap 10000/1, mm 100, from A 127, to corner 127 at 0/1 -7900/1, steps 512"),
-    (text(ROUND, TURNED_OVER), "gap 163840/1, mm 404, from A 255, to corner 127 at 0/1 8000/1, steps 512"),
-    (text(TRIANGLE, ROUND), "gap 70240784/1, mm 8380, from B 255, to corner 2 at 0/1 4/1, steps 259"),
+    (text(ROUND, TURNED_OVER), "gap 163840/1, mm 405, from A 255, to corner 127 at 0/1 8000/1, steps 512"),
+    (text(TRIANGLE, ROUND), "gap 70240784/1, mm 8381, from B 255, to corner 2 at 0/1 4/1, steps 259"),
 ]
 
 LAYOUTS = [
@@ -182,7 +182,7 @@ UNREADABLE = [
 SINGLE = {
     "fit": (EXAMPLE, SAME_AS_EXAMPLE),
     "fit_other": (b"4\n-9 -20\n-5 -20\n-5 -16\n-9 -16\n5\n7 -31\n12 5\n-2 9\n-30 8\n-40 -3\n",
-                  "gap 1130/1, mm 33, from B 4, to corner 3 at -9/1 -16/1, steps 9"),
+                  "gap 1130/1, mm 34, from B 4, to corner 3 at -9/1 -16/1, steps 9"),
     "fit_long": (EXAMPLE.rjust(LARGEST_INPUT) + b"\n", "unreadable"),
 }
 

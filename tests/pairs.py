@@ -3,6 +3,7 @@
 Run without arguments from anywhere. The same seed gives the same files, on any machine: whole numbers only, and a generator of its own.
 The input has, for each pair, how many numbers A's list has and the numbers, the same of B's, and how many allowances there are and these.
 """
+from collections import Counter
 from functools import cmp_to_key
 from math import gcd, isqrt
 from pathlib import Path
@@ -209,6 +210,15 @@ def bezout(a, b):
     return (u, w) if a == 1 else (-u, -w)
 
 
+def over_edge(x, y, side):
+    """B is a right triangle whose longest edge has the differences -x and -y; A is B with one more corner, whose side
+    number against that edge has the size `side`. No other corner of either is outside the other, so the gap is the
+    square of `side` over the squared length of the edge."""
+    triangle = moved([(0, 0), (x, 0), (x, y)], min(0, LIMIT - x), -LIMIT)
+    corner = over(triangle[2], (-x, -y), x * x + y * y, side)
+    return hull(triangle + [corner]), triangle
+
+
 def allowances(random, a, b):
     n = (len(a) + len(b)) // 2
     return sorted({0, 1, random.below(n + 2), random.below(n + 2), max(n - 1, 0), n, n + 1, LARGEST_ALLOWANCE})
@@ -228,17 +238,68 @@ LARGEST = [-16000, -16000, 16000, -16000, 16000, 16000, -16000, 16000]
 
 # The values of the specification's examples.
 STATED = [
-    (SQUARE, TRIANGLE, 512, "done 7 A 2 edge 1 256/32 64/32 64/32 2"),
+    (SQUARE, TRIANGLE, 512, "done 7 A 2 edge 1 256/32 64/32 64/32 3"),
     (SQUARE, TRIANGLE, 0, "spent 0 0 0 none"),
     (SQUARE, TRIANGLE, 3, "spent 3 2 1 none"),
     (SQUARE, TRIANGLE, 4, "spent 4 2 2 A 2 edge 1 256/32 64/32 64/32"),
     (SQUARE, MOVED, 8, "done 8 A 0 corner 0 100/1 10/1 0/1 10"),
     (SQUARE, SQUARE, 8, "done 8 A 0 within 0/1 0/1 0/1 0"),
-    (LOWER, UPPER, 6, "done 6 A 0 edge 1 4095872001/2 31999/2 31999/2 45254"),
+    (LOWER, UPPER, 6, "done 6 A 0 edge 1 4095872001/2 31999/2 31999/2 45255"),
     (STAR, SQUARE, 0, "refused A 6 0 3"),
     (STRAIGHT, SQUARE, 0, "refused A 6 0 2"),
     (SQUARE, CLOCKWISE, 0, "refused B 6 0 2"),
 ]
+
+
+# Gaps at and beside the square k² of a whole number, with the clearance. A square moved: k², k² + 1, k² - 1.
+MOVES = [
+    (31996, 0, 31996),
+    (31996, 1, 31997),
+    (13860, 13860, 19601),
+]
+# A corner over an edge, for `over_edge`: k²; below k² by 1 over the squared length; above it by as much; below 1 by as
+# much; the smallest gap above 0.
+OVER_EDGES = [
+    (20, 21, 2900, 100),
+    (14399, 240, 144010000, 10000),
+    (1, 1, 8119, 5741),
+    (80, 1, 2048240, 25601),
+    (11509, 1970, 137652910, 11789),
+    (1, 1, 19601, 13861),
+    (16000, 1, 512000001, 32001),
+    (31999, 1, 31999, 1),
+    (32000, 31999, 1, 1),
+]
+
+
+def rounded():
+    """The pairs for rounding, with their clearances."""
+    square = moved(corners(SQUARE), -LIMIT, -LIMIT)
+    for dx, dy, clearance in MOVES:
+        yield square, moved(square, dx, dy), clearance
+    for x, y, side, clearance in OVER_EDGES:
+        yield *over_edge(x, y, side), clearance
+
+
+def roundings(upper, lower):
+    """For each kind of gap that matters for rounding, 1 if this gap is of it, else 0."""
+    whole, part = divmod(upper, lower)
+
+    def is_square(n):
+        return isqrt(n) ** 2 == n
+
+    kinds = {
+        "zero": upper == 0,
+        "below 1": 0 < upper < lower,
+        "square over 1": whole > 0 and lower == 1 and is_square(whole),
+        "square over more": whole > 0 and lower > 1 and part == 0 and is_square(whole),
+        "square and a part": whole > 0 and part > 0 and is_square(whole),
+        "square and 1": whole > 1 and part == 0 and is_square(whole - 1),
+        "square less 1": whole > 1 and part == 0 and is_square(whole + 1),
+        "square and the least part": whole > 0 and part == 1 and is_square(whole),
+        "square less the least part": whole > 0 and part > 0 and part == lower - 1 and is_square(whole + 1),
+    }
+    return {kind: int(holds) for kind, holds in kinds.items()}
 
 
 def worked():
@@ -285,6 +346,8 @@ def pairs():
         b = numbers(from_corner(b, random.below(len(b))))
         if not (refusal(a) or refusal(b)):
             yield a, b, allowances(random, a, b)
+    for a, b, _ in rounded():
+        yield numbers(a), numbers(b), [len(a) + len(b)]
 
 
 def position(a, b):
@@ -297,26 +360,35 @@ def position(a, b):
     return "overlapping" if any(a_within) or any(b_within) else "apart"
 
 
-def check_coverage(given):
-    """The pairs have what they are to have, whatever the seed."""
+def check_coverage(given, answers):
+    """The pairs have what they are to have, whatever the seed. The last answer for a pair is done, if accepted."""
     accepted = [(corners(a), corners(b)) for a, b, _ in given if not (refusal(a) or refusal(b))]
     assert len(accepted) >= 2000
     positions = [position(a, b) for a, b in accepted]
     assert all(positions.count(one) >= 100 for one in ("same", "nested", "overlapping", "apart"))
     assert {min(len(a), len(b)) for a, b in accepted} >= {3} and {max(len(a), len(b)) for a, b in accepted} >= {256}
+    done = [texts[-1].split() for texts in answers if texts[-1].startswith("done")]
+    assert len(done) == len(accepted) and max(int(words[-1]) for words in done) == 45255
+    counted = Counter()
+    for words in done:
+        counted.update(roundings(*map(int, words[-4].split("/"))))
+    assert min(counted.values()) >= 3, counted
 
 
 def main():
     for a, b, allowance, text in STATED:
         assert compare(a, b, allowance) == text, text
+    for a, b, clearance in rounded():
+        assert compare(numbers(a), numbers(b), 512).split()[-1] == str(clearance), (a, b)
     given = list(pairs())
-    check_coverage(given)
+    answers = [compare_all(*one) for one in given]
+    check_coverage(given, answers)
     crate = Path(__file__).resolve().parent.parent / "crates" / "pairs"
     with open(crate / "stdin", "w", newline="\n") as numbers_file, open(crate / "stdout", "w", newline="\n") as answers_file:
-        for a, b, steps in given:
-            for part in (a, b, steps):
+        for one, texts in zip(given, answers):
+            for part in one:
                 print(len(part), *part, file=numbers_file)
-            print(*compare_all(a, b, steps), sep="\n", file=answers_file)
+            print(*texts, sep="\n", file=answers_file)
 
 
 if __name__ == "__main__":

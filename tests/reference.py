@@ -8,7 +8,6 @@ the program `pairs` prints for them:
     done STEPS SIDE CORNER FEATURE GAP X Y CLEARANCE
 """
 from functools import cmp_to_key
-from math import isqrt
 
 LIMIT = 16000
 
@@ -154,9 +153,10 @@ def counts(near, piece, support):
 
 
 def clearance(gap):
-    """The largest whole number whose square is not above the gap."""
-    m = isqrt(gap.upper // gap.lower)
-    assert m * m * gap.lower <= gap.upper < (m + 1) * (m + 1) * gap.lower
+    """The smallest whole number whose square is not below the gap: tried from 0 up, at most to 45,255."""
+    m = 0
+    while m * m * gap.lower < gap.upper:
+        m += 1
     return m
 
 

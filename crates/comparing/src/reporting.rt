@@ -6,7 +6,6 @@ use hausdorff::Spent;
 use hausdorff::SupportCorners;
 use hausdorff::WorstSoFar;
 use integers::fraction;
-use integers::fraction::Fraction;
 use integers::fraction::Order;
 use integers::root;
 use outline::Side;
@@ -14,12 +13,10 @@ use plane::Corner;
 use projection::answers;
 use sweep::State;
 ghost use mathlib.Core.Path.{_≡_};
-ghost use Prim.Native.Nat.{_<_};
 ghost use Rattle.integers.specs.code.Fraction.{Bounded};
 ghost use Rattle.hausdorff.specs.CornerGap.{worse};
 ghost use Rattle.hausdorff.specs.code.Worst.{overall};
 ghost use Rattle.hausdorff.specs.Law.{orWithin};
-ghost use Rattle.hausdorff.specs.code.Report.{clearance};
 ghost use Rattle.measuring.specs.Changes.{BoundedWorst};
 ghost use Rattle.sweep.specs.State.{BoundedState};
 ghost use Rattle.comparing.specs.ReportOf.{reportOf};
@@ -62,14 +59,6 @@ fn or_within(worst: WorstSoFar, first: Corner) -> CornerGap
     }
 }
 
-// The clearance of a gap.
-fn clearance(gap: Fraction) -> u64
-    requires { ⌜ 0 < gap .lower ⌝ }
-    ensures { λ r. ⌜ r ≡ clearance gap ⌝ }
-{
-    root::root(gap.upper / gap.lower)
-}
-
 // What there is to report after the steps made. `first` is A's corner 0.
 pub fn report_of(state: State, steps: u32, is_spent: bool, first: Corner) -> Report
     requires { ⌜ BoundedState state ⌝ }
@@ -95,6 +84,6 @@ pub fn report_of(state: State, steps: u32, is_spent: bool, first: Corner) -> Rep
     Report::Done(Done {
         steps: steps,
         answer: answer,
-        clearance: clearance(gap),
+        clearance: root::ceiling_root(gap),
     })
 }

@@ -47,7 +47,7 @@ example input output = record { input = input; output = output }
 
 abbrev cases : List Case
 cases =
-    example "4 0 0 4 0 4 4 0 4 3 0 0 4 0 0 4" "gap 256/32\nmm 2\nfrom A 2\nto edge 1 at 64/32 64/32\nsteps 7\n"
+    example "4 0 0 4 0 4 4 0 4 3 0 0 4 0 0 4" "gap 256/32\nmm 3\nfrom A 2\nto edge 1 at 64/32 64/32\nsteps 7\n"
     ∷ example " 3 0 0 0 4 4 0\n3 0 0 4 0 0 4 " "refused A 6 0 2\n"
     ∷ example "3 0 0 4 0 0 4 3 0 0 4 0 0 16001" "refused B 4 2\n"
     ∷ example "2 0 0 4 0 0" "refused A 2\n"

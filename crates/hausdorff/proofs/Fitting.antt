@@ -1,14 +1,15 @@
 -- The natural numbers of an answer fit an i64: none is above 2,048,000,000 squared, which is below 2^63. (X and Y
 -- of its point are i64 in the code, and the steps u32.)
---     values-fit       of what rule 3.4 lays down for a feature of an accepted outline and a point in range
---     answers-fit      so of the nearest point
---     corner-fits      and of a corner with its gap to the other outline
---     found-fits       what the call for the nearest point answers
---     report-fits      what the call that compares reports
-use Prim.Native.Nat.{ℕ, zero, suc, zero-le, _*_, _^_, _≤_, _<_}
+--     values-fit          of what rule 3.4 lays down for a feature of an accepted outline and a point in range
+--     answers-fit         so of the nearest point
+--     corner-fits         and of a corner with its gap to the other outline
+--     found-fits          what the call for the nearest point answers
+--     clearance-at-most   no clearance is above 45,255
+--     report-fits         what the call that compares reports
+use Prim.Native.Nat.{ℕ, _^_, _≤_, _<_}
 use mathlib.Core.Path.{_≡_, sym, subst}
 use mathlib.Core.List.{List}
-use native.Mathlib.Nat.{le-trans, lt-of-le-of-lt, lt-of-lt-of-le, le-mul-of-pos-right}
+use native.Mathlib.Nat.{le-trans, lt-of-le-of-lt, lt-of-lt-of-le, mul-le-mul-right, mul-one}
 use native.Mathlib.Omega.{arith}
 use lib.Dec.{T, ltb, lit<, lit≤, ltb→lt}
 use lib.IntN.{ℤ, natAbs}
@@ -32,6 +33,7 @@ use Rattle.nearest.specs.code.Call.{nearestAnswer}
 use Rattle.nearest.specs.Feature.{values}
 use Rattle.nearest.specs.Nearest.{Fits, Answers}
 use Rattle.nearest.proofs.CallLaws.{nearest-answers}
+use Rattle.nearest.proofs.GapLimit.{gap-at-most}
 use Rattle.hausdorff.specs.declared.CornerGap.{CornerGap}
 use Rattle.hausdorff.specs.declared.WorstSoFar.{WorstSoFar}
 use Rattle.hausdorff.specs.declared.WorstSoFar.the-variants.{None, Worst}
@@ -86,12 +88,6 @@ pub found-fits : (v : Corner) (s : List ℤ) {a : NearestPoint} → nearestAnswe
 found-fits v s {a} is =
     let (ok, in-range, answers) = nearest-answers v s a .0 is in answers-fit (ok .1) in-range answers
 
--- a clearance is not above the gap's upper number
-root-small : (m l : ℕ) → 0 < l → m ≤ m * m * l
-root-small zero l positive = zero-le
-root-small (suc m) l positive =
-    le-trans (le-mul-of-pos-right (suc m) (omega arith)) (le-mul-of-pos-right (suc m * suc m) positive)
-
 module _ {pair : Pair} (ok : AcceptedPair pair) where
   corner-fits : {w : CornerGap} → IsGap pair w → CornerFits w
   corner-fits {w} is = record {
@@ -103,13 +99,18 @@ module _ {pair : Pair} (ok : AcceptedPair pair) where
   worst-fits k None is = tt
   worst-fits k (Worst w) leads = corner-fits (leads .is-gap)
 
+  -- no gap is above 2 · 32,000², and the square of 45,255 is
+  pub clearance-at-most : {d : Done} → OfDone pair d → d .clearance ≤ 45255
+  clearance-at-most {d} of =
+      let is = of .as-defined .is-gap in let w = d .answer in
+      let small = gap-at-most (ok (other (w .side))) (ok (w .side) .in-range (w .corner) (is .known)) (is .answers) in
+      of .clearance .smallest 45255 (le-trans (rw mul-one at small) (mul-le-mul-right (w .gap .lower) (lit≤ tt)))
+
   of-done-fits : {d : Done} → OfDone pair d → DoneFits d
-  of-done-fits {d} of =
-      let answer = corner-fits (of .as-defined .is-gap) in record {
-        answer = answer;
-        clearance = lt-of-le-of-lt (le-trans (root-small (d .clearance) (d .answer .gap .lower) (of .distance .lower-positive))
-            (of .clearance .not-above)) (answer .nearest .upper);
-      }
+  of-done-fits of = record {
+    answer = corner-fits (of .as-defined .is-gap);
+    clearance = lt-of-le-of-lt (clearance-at-most of) (lit< tt);
+  }
 
   support-fits : (k : ℕ) (s : Side) → FitsI64 (supportAfter pair k s)
   support-fits k s = number-fits (ok s) _ (support-known pair (λ t. accepted-polygon (ok t)) k s)

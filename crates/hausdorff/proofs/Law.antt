@@ -9,8 +9,7 @@ use mathlib.Core.Bool.{Bool, true, false}
 use native.Mathlib.Omega.{arith}
 use borrow.Author.Tests.{lt-ltb, le-ltb, ltb-true, ltb-false}
 use lib.Dec.{ltb}
-use Rattle.integers.specs.Root.{FloorRoot}
-use Rattle.integers.proofs.RootLaws.{floor-root, floor-unique}
+use Rattle.integers.proofs.RootLaws.{ceiling-root, ceiling-unique}
 use Rattle.outline.proofs.EdgeLaws.{accepted-polygon}
 use Rattle.hausdorff.specs.declared.Spent.{Spent}
 use Rattle.hausdorff.specs.declared.Done.{Done}
@@ -23,7 +22,7 @@ use Rattle.hausdorff.specs.Pair.{Pair, stepCount}
 use Rattle.hausdorff.specs.Answer.{IsGap, IsAnswer, TrueFigure}
 use Rattle.hausdorff.specs.Counted.{IsWorst}
 use Rattle.hausdorff.specs.Exhaustive.{exhaustive}
-use Rattle.hausdorff.specs.Law.{OfDone, OfSpent, Law}
+use Rattle.hausdorff.specs.Law.{IsClearance, OfDone, OfSpent, Law}
 use Rattle.hausdorff.specs.code.Pair.{AcceptedPair, Polygons}
 use Rattle.hausdorff.specs.code.Sweep.{worstSoFar}
 use Rattle.hausdorff.specs.code.Report.{answer, spent, done, report}
@@ -54,7 +53,7 @@ module _ (pair : Pair) (accepted : AcceptedPair pair) where
     as-searched = found-searched;
     figure = figure-of (answer pair) found;
     distance = distance;
-    clearance = floor-root (answer pair .gap) (distance .lower-positive);
+    clearance = ceiling-root (answer pair .gap) (distance .lower-positive);
   }
 
   -- a gap that counts is a corner's
@@ -84,8 +83,8 @@ done-unique {d = d} {e} one other =
     let gaps = ap (λ (w : CornerGap). w .gap) answers in λ i. record {
       steps = (one .steps ∙ sym (other .steps)) i;
       answer = answers i;
-      clearance = floor-unique (one .clearance)
-          (subst (λ x. FloorRoot x (e .clearance)) (sym gaps) (other .clearance)) i;
+      clearance = ceiling-unique (one .clearance)
+          (subst (λ x. IsClearance x (e .clearance)) (sym gaps) (other .clearance)) i;
     }
 
 spent≢done : (p : Spent) (d : Done) → ¬ (Report.Spent p ≡ Report.Done d)

@@ -4,7 +4,7 @@ use Prim.Native.Nat.{ℕ, _<_, _≤_}
 use mathlib.Core.Path.{_≡_}
 use Rattle.integers.specs.declared.fraction.Fraction.{Fraction}
 use Rattle.integers.specs.Fraction.{NotGreater}
-use Rattle.integers.specs.Root.{FloorRoot}
+use Rattle.integers.specs.Root.{CeilingRoot}
 use Rattle.plane.specs.declared.Corner.{Corner}
 use Rattle.outline.specs.Corners.{corner}
 use Rattle.outline.specs.declared.Side.the-variants.{A, B}
@@ -29,9 +29,9 @@ abbrev pub orWithin : Corner → WorstSoFar → CornerGap
 orWithin first None = withCorner A 0 (withinValues first)
 orWithin first (Worst w) = w
 
--- rule 4.6, the clearance of a gap: the largest whole number whose square is not above it
+-- rule 4.6, the clearance of a gap: the smallest whole number whose square is not below it
 abbrev pub IsClearance : Fraction → ℕ → Type 0
-IsClearance g m = FloorRoot g m
+IsClearance g m = CeilingRoot g m
 
 -- rule 6.2, what holds of a spent report
 pub record OfSpent (pair : Pair) (allowance : ℕ) (p : Spent) : Type 0 where

@@ -1,8 +1,8 @@
--- The whole part of a square root.
+-- A square root, rounded up.
 use Prim.Native.Nat.{ℕ, _*_, _≤_}
 use Rattle.integers.specs.declared.fraction.Fraction.{Fraction}
 
--- m is the largest whole number whose square is not above the fraction
-pub record FloorRoot (g : Fraction) (m : ℕ) : Type 0 where
-  pub not-above : m * m * g .lower ≤ g .upper
-  pub largest : (k : ℕ) → k * k * g .lower ≤ g .upper → k ≤ m
+-- m is the smallest whole number whose square is not below the fraction
+pub record CeilingRoot (g : Fraction) (m : ℕ) : Type 0 where
+  pub not-below : g .upper ≤ m * m * g .lower
+  pub smallest : (k : ℕ) → g .upper ≤ k * k * g .lower → m ≤ k

@@ -7,6 +7,7 @@ pub mod LocalLaws
 pub mod FitsLaws
 pub mod DistanceLaws
 pub mod AnswerLaws
+pub mod GapLimit
 pub mod SearchLaws
 pub mod Scaling
 pub mod CallLaws

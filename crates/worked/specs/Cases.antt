@@ -161,6 +161,22 @@ low = negsuc 15999 ∷ negsuc 15999 ∷ negsuc 15998 ∷ negsuc 15999 ∷ negsuc
 unfoldable pub high : List ℤ
 high = pos 16000 ∷ pos 16000 ∷ pos 15999 ∷ pos 16000 ∷ pos 16000 ∷ pos 15999 ∷ []
 
+-- S with sides of 3
+unfoldable pub S3 : List ℤ
+S3 = pos 0 ∷ pos 0 ∷ pos 3 ∷ pos 0 ∷ pos 3 ∷ pos 3 ∷ pos 0 ∷ pos 3 ∷ []
+
+-- T with legs of 3
+unfoldable pub T3 : List ℤ
+T3 = pos 0 ∷ pos 0 ∷ pos 3 ∷ pos 0 ∷ pos 0 ∷ pos 3 ∷ []
+
+-- a triangle above its edge 0: (0,0) (4,0) (2,4)
+unfoldable pub upward : List ℤ
+upward = pos 0 ∷ pos 0 ∷ pos 4 ∷ pos 0 ∷ pos 2 ∷ pos 4 ∷ []
+
+-- a triangle below that edge: (0,0) (2,-3) (4,0)
+unfoldable pub downward : List ℤ
+downward = pos 0 ∷ pos 0 ∷ pos 2 ∷ negsuc 2 ∷ pos 4 ∷ pos 0 ∷ []
+
 -- a square about (0,0)
 unfoldable pub square : List ℤ
 square = pos 1 ∷ negsuc 0 ∷ pos 1 ∷ pos 1 ∷ negsuc 0 ∷ pos 1 ∷ negsuc 0 ∷ negsuc 0 ∷ []
@@ -230,17 +246,20 @@ cases =
     ∷ searches (point (pos 12) (pos 9)) wedge (cornerOne 90)
     ∷ searches (point (pos 6) (pos 1)) wedge (within (pos 6) (pos 1))
     ∷ orders S T (a 0 ∷ b 0 ∷ a 1 ∷ b 1 ∷ a 2 ∷ a 3 ∷ b 2 ∷ [])
-    ∷ compares S T 512 (done 7 (corner A 2 (Feature.Edge 1) 256 (pos 64) (pos 64) 32) 2)
+    ∷ compares S T 512 (done 7 (corner A 2 (Feature.Edge 1) 256 (pos 64) (pos 64) 32) 3)
     ∷ compares S T 0 (spent 0 0 0 None)
     ∷ compares S T 3 (spent 3 2 1 None)
     ∷ compares S T 4 (spent 4 2 2 (Worst (corner A 2 (Feature.Edge 1) 256 (pos 64) (pos 64) 32)))
     ∷ compares S T 6 (spent 6 0 2 (Worst (corner A 2 (Feature.Edge 1) 256 (pos 64) (pos 64) 32)))
-    ∷ compares T S 7 (done 7 (corner B 2 (Feature.Edge 1) 256 (pos 64) (pos 64) 32) 2)
+    ∷ compares T S 7 (done 7 (corner B 2 (Feature.Edge 1) 256 (pos 64) (pos 64) 32) 3)
     ∷ compares S moved 8 (done 8 (corner A 0 (Feature.Corner 0) 100 (pos 10) (pos 0) 1) 10)
     ∷ compares S S 8 (done 8 (corner A 0 Feature.Within 0 (pos 0) (pos 0) 1) 0)
     ∷ compares S turned 8 (done 8 (corner A 0 Feature.Within 0 (pos 0) (pos 0) 1) 0)
     ∷ compares turned S 8 (done 8 (corner A 0 Feature.Within 0 (pos 4) (pos 4) 1) 0)
-    ∷ compares low high 6 (done 6 (corner A 0 (Feature.Edge 1) 4095872001 (pos 31999) (pos 31999) 2) 45254)
+    ∷ compares low high 6 (done 6 (corner A 0 (Feature.Edge 1) 4095872001 (pos 31999) (pos 31999) 2) 45255)
+    -- 81/18 is above the square of 2, its whole part is not; 256/16 is the square of 4
+    ∷ compares S3 T3 7 (done 7 (corner A 2 (Feature.Edge 1) 81 (pos 27) (pos 27) 18) 3)
+    ∷ compares upward downward 6 (done 6 (corner A 2 (Feature.Edge 2) 256 (pos 32) (pos 0) 16) 4)
     -- of equal gaps corner 2 takes the place of corner 3, which was found before
     ∷ compares square squareMoved 5 (spent 5 2 1 (Worst (corner A 3 (Feature.Corner 3) 100 (pos 9) (negsuc 0) 1)))
     ∷ compares square squareMoved 6 (spent 6 2 2 (Worst (corner A 2 (Feature.Corner 2) 100 (pos 9) (pos 1) 1)))

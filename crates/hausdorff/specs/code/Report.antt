@@ -1,10 +1,10 @@
 -- What a comparison of two accepted outlines gives for a step allowance, computed: `proofs/Law.antt` shows that it
 -- obeys the law.
-use Prim.Native.Nat.{ℕ, _/_}
+use Prim.Native.Nat.{ℕ}
 use mathlib.Core.Bool.{cond}
 use lib.Dec.{ltb}
 use Rattle.integers.specs.declared.fraction.Fraction.{Fraction}
-use Rattle.integers.specs.code.Root.{root}
+use Rattle.integers.specs.code.Root.{ceilingRoot}
 use Rattle.outline.specs.Corners.{corner}
 use Rattle.outline.specs.declared.Side.the-variants.{A, B}
 use Rattle.hausdorff.specs.declared.CornerGap.{CornerGap}
@@ -17,10 +17,9 @@ use Rattle.hausdorff.specs.Law.{orWithin}
 use Rattle.hausdorff.specs.code.Sweep.{worstSoFar}
 use Rattle.hausdorff.specs.Support.{supportAfter}
 
--- the clearance of a gap. A whole number's square is not above a fraction exactly where it is not above its
--- whole part
+-- the clearance of a gap
 abbrev pub clearance : Fraction → ℕ
-clearance g = root (g .upper / g .lower)
+clearance g = ceilingRoot g
 
 -- the worst so far after step N, or A's corner 0, within, if that is none
 abbrev pub answer : Pair → CornerGap

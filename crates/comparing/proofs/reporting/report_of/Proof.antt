@@ -7,15 +7,16 @@ use Rattle.comparing.proofs.reporting.report_of.Tie as tie
 returns : tie.Need-returns
 returns c = rw (c .if1 .taken, c .before .overall .ensures)
 
-clearance-requires : tie.Need-clearance-requires
-clearance-requires c κs =
+ceiling-root-requires : tie.Need-ceiling-root-requires
+ceiling-root-requires c κs =
     let worst = c .before .before .before in let start = worst .before .before .before in
     rw (c .before .or-within .ensures, worst .overall .ensures) (answer-positive (start .args .state) _ (start .pre))
 
 returns-2 : tie.Need-returns-2
 returns-2 c =
     let done = c .before .before .before in
-    rw (done .if1 .left, c .clearance .ensures, c .before .before .or-within .ensures, done .before .overall .ensures)
+    let within = c .before .before .or-within .ensures in
+    rw (done .if1 .left, c .ceiling-root .ensures, within, done .before .overall .ensures)
 
 pub report-of-spec : {M : Type 1} → statement M
-report-of-spec = tie.close (tie.spec (λ c κs. search needs) returns (search needs) clearance-requires returns-2)
+report-of-spec = tie.close (tie.spec (λ c κs. search needs) returns (search needs) ceiling-root-requires returns-2)
