@@ -20,8 +20,18 @@ typedef struct {
 
 static uint64_t greater(uint64_t a, uint64_t b) { return a < b ? b : a; }
 
-/* Each way, some times over. A comparison gives the upper number of its gap and the clearance, added, so that both are
-   computed; reading how many corners both have; and all turns together the greatest. */
+/* What a comparison gives: the clearance and the upper numbers of the gap and of both sides' gaps, B's twice, added. */
+static uint64_t digest(uint64_t upper, uint64_t clearance, uint64_t upper_a, uint64_t upper_b) {
+    return upper + clearance + upper_a + 2 * upper_b;
+}
+
+/* The same of a report in plain C, all of which is computed. */
+static uint64_t digest_of(const Done *done) {
+    __asm__ volatile("" ::"r"(done) : "memory");
+    return digest(done->answer.gap.upper, done->clearance, done->a.gap.upper, done->b.gap.upper);
+}
+
+/* Each way, some times over. Reading gives how many corners both have; all turns together give the greatest. */
 static uint64_t call(const Pair *p, uint32_t turns) {
     uint64_t greatest = 0;
     for (uint32_t i = 0; i < turns; i++) {
@@ -29,7 +39,9 @@ static uint64_t call(const Pair *p, uint32_t turns) {
         struct ravinebowl_status status = ravinebowl_compare(&p->a[0].x, 2 * p->n, &p->b[0].x, 2 * p->n,
                                                              RAVINEBOWL_ENOUGH_STEPS, result, RAVINEBOWL_COMPARE_LENGTH);
         if (status.code == RAVINEBOWL_ANSWERED)
-            greatest = greater(greatest, result[RAVINEBOWL_COMPARE_GAP_UPPER] + result[RAVINEBOWL_COMPARE_CLEARANCE]);
+            greatest = greater(greatest,
+                               digest(result[RAVINEBOWL_COMPARE_GAP_UPPER], result[RAVINEBOWL_COMPARE_CLEARANCE],
+                                      result[RAVINEBOWL_COMPARE_GAP_UPPER_A], result[RAVINEBOWL_COMPARE_GAP_UPPER_B]));
     }
     return greatest;
 }
@@ -48,7 +60,7 @@ static uint64_t plain(const Pair *p, uint32_t turns) {
     for (uint32_t i = 0; i < turns; i++) {
         __asm__ volatile("" ::: "memory");
         Done done = plain_sweep(p->a, p->n, p->b, p->n);
-        greatest = greater(greatest, done.answer.gap.upper + done.clearance);
+        greatest = greater(greatest, digest_of(&done));
     }
     return greatest;
 }
@@ -57,8 +69,8 @@ static uint64_t exhaustive(const Pair *p, uint32_t turns) {
     uint64_t greatest = 0;
     for (uint32_t i = 0; i < turns; i++) {
         __asm__ volatile("" ::: "memory");
-        Gap answer = plain_search(p->a, p->n, p->b, p->n);
-        greatest = greater(greatest, answer.gap.upper + clearance(answer.gap));
+        Done done = plain_search(p->a, p->n, p->b, p->n);
+        greatest = greater(greatest, digest_of(&done));
     }
     return greatest;
 }

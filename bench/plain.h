@@ -96,11 +96,12 @@ static size_t lowest(const Corner *o, size_t n) {
     return found;
 }
 
-/* What a comparison that is done reports. */
+/* What a comparison that is done reports: the answer with its clearance, and the answers of A and of B. */
 typedef struct {
     size_t steps;
     Gap answer;
     uint64_t clearance;
+    Gap a, b;
 } Done;
 
 /* The largest whole number whose square is not above n. */
@@ -117,14 +118,19 @@ static uint64_t clearance(Fraction gap) {
     return r * r * gap.lower < gap.upper ? r + 1 : r;
 }
 
-static Gap zero_within(Corner v) { return (Gap){.kind = WITHIN, .gap = {0, 1}, .x = v.x, .y = v.y}; }
+static Gap zero_within(int side, Corner v) {
+    return (Gap){.side = side, .kind = WITHIN, .gap = {0, 1}, .x = v.x, .y = v.y};
+}
 
-/* The worse of A's and B's or, where both are none, A's corner 0, within. */
-static Gap overall(Worst a, Worst b, Corner first) {
-    if (!a.is_some && !b.is_some) return zero_within(first);
-    if (!a.is_some) return b.gap;
-    if (!b.is_some) return a.gap;
-    return less(a.gap.gap, b.gap.gap) ? b.gap : a.gap;
+/* The worst of a side or, where it is none, the side's corner 0, within. */
+static Gap or_within(int side, Corner first, Worst worst) {
+    return worst.is_some ? worst.gap : zero_within(side, first);
+}
+
+/* The report of the answers of A and B: the answer is the worse of the two, A's where the gaps are equal. */
+static Done done(size_t steps, Gap a, Gap b) {
+    Gap answer = less(a.gap, b.gap) ? b : a;
+    return (Done){steps, answer, clearance(answer.gap), a, b};
 }
 
 static Done plain_sweep(const Corner *a, size_t n, const Corner *b, size_t m) {
@@ -141,8 +147,7 @@ static Done plain_sweep(const Corner *a, size_t n, const Corner *b, size_t m) {
             left_a--;
         }
     }
-    Gap answer = overall(worst_a, worst_b, a[0]);
-    return (Done){n + m, answer, clearance(answer.gap)};
+    return done(n + m, or_within(0, a[0], worst_a), or_within(1, b[0], worst_b));
 }
 
 static int is_within(Corner v, const Corner *o, size_t n) {
@@ -153,7 +158,7 @@ static int is_within(Corner v, const Corner *o, size_t n) {
 
 /* The nearest of all corners and edges. */
 static Gap search(Corner v, const Corner *o, size_t n) {
-    if (is_within(v, o, n)) return zero_within(v);
+    if (is_within(v, o, n)) return zero_within(0, v);
     Gap least = at_corner(v, 0, o[0]);
     for (size_t i = 0; i < n; i++) {
         Gap g = at_corner(v, i, o[i]);
@@ -166,18 +171,20 @@ static Gap search(Corner v, const Corner *o, size_t n) {
     return least;
 }
 
-static Gap plain_search(const Corner *a, size_t n, const Corner *b, size_t m) {
-    Gap worst = search(a[0], b, m);
-    for (size_t i = 0; i < n; i++) {
-        Gap g = search(a[i], b, m);
+/* The worst corner of an outline of n corners against one of m. */
+static Gap worst_of(int side, const Corner *o, size_t n, const Corner *other, size_t m) {
+    Gap worst = search(o[0], other, m);
+    worst.side = side;
+    worst.corner = 0;
+    for (size_t i = 1; i < n; i++) {
+        Gap g = search(o[i], other, m);
+        g.side = side;
         g.corner = i;
         if (less(worst.gap, g.gap)) worst = g;
     }
-    for (size_t j = 0; j < m; j++) {
-        Gap g = search(b[j], a, n);
-        g.side = 1;
-        g.corner = j;
-        if (less(worst.gap, g.gap)) worst = g;
-    }
     return worst;
+}
+
+static Done plain_search(const Corner *a, size_t n, const Corner *b, size_t m) {
+    return done(n + m, worst_of(0, a, n, b, m), worst_of(1, b, m, a, n));
 }

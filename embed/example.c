@@ -8,6 +8,7 @@
 
 static const int32_t SQUARE[] = {0, 0, 4, 0, 4, 4, 0, 4};
 static const int32_t TRIANGLE[] = {0, 0, 4, 0, 0, 4};
+static const int32_t MOVED[] = {10, 0, 14, 0, 14, 4, 10, 4};
 static const int32_t STAR[] = {0, 3, -2, -3, 3, 1, -3, 1, 2, -3};
 static const int32_t WEDGE[] = {0, 0, 9, 0, 0, 3};
 
@@ -44,14 +45,23 @@ static void print_nearest(const int64_t *nearest) {
     printf(", gap %" PRId64 "/%" PRId64, nearest[RAVINEBOWL_NEAREST_GAP_UPPER], nearest[RAVINEBOWL_NEAREST_GAP_LOWER]);
 }
 
-/* The worst corner of a comparison, or that there is none yet. */
-static void print_worst(const int64_t *result) {
-    if (result[RAVINEBOWL_COMPARE_SIDE] == RAVINEBOWL_NO_SIDE) {
+/* The nine numbers of a worst corner, of both outlines or of one: side, corner and the numbers of its nearest point. */
+static void print_worst(const int64_t *worst) {
+    if (worst[0] == RAVINEBOWL_NO_SIDE) {
         printf("no worst so far");
         return;
     }
-    printf("%c %" PRId64 " to ", side_name(result[RAVINEBOWL_COMPARE_SIDE]), result[RAVINEBOWL_COMPARE_CORNER]);
-    print_nearest(&result[RAVINEBOWL_COMPARE_FEATURE]);
+    printf("%c %" PRId64 " to ", side_name(worst[0]), worst[1]);
+    print_nearest(&worst[2]);
+}
+
+/* A line for each outline. */
+static void print_sides(const int64_t *result) {
+    printf("  of A: ");
+    print_worst(&result[RAVINEBOWL_COMPARE_SIDE_A]);
+    printf("\n  of B: ");
+    print_worst(&result[RAVINEBOWL_COMPARE_SIDE_B]);
+    printf("\n");
 }
 
 static void compare(const int32_t *a, size_t a_length, const int32_t *b, size_t b_length, uint32_t allowance) {
@@ -61,13 +71,15 @@ static void compare(const int32_t *a, size_t a_length, const int32_t *b, size_t 
         print_refusal(status);
     } else if (result[RAVINEBOWL_COMPARE_KIND] == RAVINEBOWL_DONE) {
         printf("done in %" PRId64 " steps: ", result[RAVINEBOWL_COMPARE_STEPS]);
-        print_worst(result);
+        print_worst(&result[RAVINEBOWL_COMPARE_SIDE]);
         printf(", clearance %" PRId64 "\n", result[RAVINEBOWL_COMPARE_CLEARANCE]);
+        print_sides(result);
     } else {
         printf("spent after %" PRId64 " steps, support corners A %" PRId64 " and B %" PRId64 ": ", result[RAVINEBOWL_COMPARE_STEPS],
                result[RAVINEBOWL_COMPARE_SUPPORT_A], result[RAVINEBOWL_COMPARE_SUPPORT_B]);
-        print_worst(result);
+        print_worst(&result[RAVINEBOWL_COMPARE_SIDE]);
         printf("\n");
+        print_sides(result);
     }
 }
 
@@ -113,6 +125,7 @@ int main(void) {
     compare(SQUARE, COUNT(SQUARE), TRIANGLE, COUNT(TRIANGLE), RAVINEBOWL_ENOUGH_STEPS);
     compare(SQUARE, COUNT(SQUARE), TRIANGLE, COUNT(TRIANGLE), 4);
     compare(SQUARE, COUNT(SQUARE), TRIANGLE, COUNT(TRIANGLE), 3);
+    compare(SQUARE, COUNT(SQUARE), MOVED, COUNT(MOVED), RAVINEBOWL_ENOUGH_STEPS);
     compare(STAR, COUNT(STAR), SQUARE, COUNT(SQUARE), RAVINEBOWL_ENOUGH_STEPS);
     compare(SQUARE, COUNT(SQUARE), NULL, 0, RAVINEBOWL_ENOUGH_STEPS);
     nearest_point(6, 6, WEDGE, COUNT(WEDGE));

@@ -5,6 +5,7 @@ use ravinebowl::{Comparison, CornerGap, NearestPoint, ENOUGH_STEPS};
 
 const SQUARE: [i32; 8] = [0, 0, 4, 0, 4, 4, 0, 4];
 const TRIANGLE: [i32; 6] = [0, 0, 4, 0, 0, 4];
+const MOVED: [i32; 8] = [10, 0, 14, 0, 14, 4, 10, 4];
 const STAR: [i32; 10] = [0, 3, -2, -3, 3, 1, -3, 1, 2, -3];
 const WEDGE: [i32; 6] = [0, 0, 9, 0, 0, 3];
 
@@ -24,6 +25,16 @@ fn worst_text(worst: CornerGap) -> String {
     )
 }
 
+fn shown_text(worst: Option<CornerGap>) -> String {
+    worst.map_or("no worst so far".to_string(), worst_text)
+}
+
+/// A line for each outline.
+fn print_sides(a: Option<CornerGap>, b: Option<CornerGap>) {
+    println!("  of A: {}", shown_text(a));
+    println!("  of B: {}", shown_text(b));
+}
+
 fn compare(a: &[i32], b: &[i32], allowance: u32) {
     match ravinebowl::compare(a, b, allowance) {
         Err(refusal) => println!("{refusal}"),
@@ -31,20 +42,26 @@ fn compare(a: &[i32], b: &[i32], allowance: u32) {
             steps,
             answer,
             clearance,
+            answer_a,
+            answer_b,
         }) => {
             println!(
                 "done in {steps} steps: {}, clearance {clearance}",
                 worst_text(answer)
             );
+            print_sides(Some(answer_a), Some(answer_b));
         }
         Ok(Comparison::Spent {
             steps,
             support_a,
             support_b,
             worst,
+            worst_a,
+            worst_b,
         }) => {
-            let worst = worst.map_or("no worst so far".to_string(), worst_text);
+            let worst = shown_text(worst);
             println!("spent after {steps} steps, support corners A {support_a} and B {support_b}: {worst}");
+            print_sides(worst_a, worst_b);
         }
     }
 }
@@ -83,6 +100,7 @@ fn main() {
     compare(&SQUARE, &TRIANGLE, ENOUGH_STEPS);
     compare(&SQUARE, &TRIANGLE, 4);
     compare(&SQUARE, &TRIANGLE, 3);
+    compare(&SQUARE, &MOVED, ENOUGH_STEPS);
     compare(&STAR, &SQUARE, ENOUGH_STEPS);
     compare(&SQUARE, &[], ENOUGH_STEPS);
     nearest_point(6, 6, &WEDGE);

@@ -20,6 +20,10 @@ fn gap_text(of: CornerGap) -> String {
     )
 }
 
+fn shown_text(of: Option<CornerGap>) -> String {
+    of.map_or("none".to_string(), gap_text)
+}
+
 fn line(a: &[i32], b: &[i32], allowance: u32) -> String {
     match ravinebowl::compare(a, b, allowance) {
         Err(refusal) => refusal.to_string(),
@@ -27,15 +31,22 @@ fn line(a: &[i32], b: &[i32], allowance: u32) -> String {
             steps,
             answer,
             clearance,
-        }) => format!("done {steps} {} {clearance}", gap_text(answer)),
+            answer_a,
+            answer_b,
+        }) => {
+            let (answer, a, b) = (gap_text(answer), gap_text(answer_a), gap_text(answer_b));
+            format!("done {steps} {answer} {clearance} {a} {b}")
+        }
         Ok(Comparison::Spent {
             steps,
             support_a,
             support_b,
             worst,
+            worst_a,
+            worst_b,
         }) => {
-            let worst = worst.map_or("none".to_string(), gap_text);
-            format!("spent {steps} {support_a} {support_b} {worst}")
+            let (worst, a, b) = (shown_text(worst), shown_text(worst_a), shown_text(worst_b));
+            format!("spent {steps} {support_a} {support_b} {worst} {a} {b}")
         }
     }
 }

@@ -34,8 +34,8 @@ extern "C" {
 #define RAVINEBOWL_LARGEST_COORDINATE 16000
 #define RAVINEBOWL_ENOUGH_STEPS 512
 
-/* Stands in a result list where a place does not apply. X and Y can be -1 too: whether there is a point goes by the side (place 4 of a
- * comparison). */
+/* Stands in a result list where a place does not apply. X and Y can be -1 too: whether there is a point goes by the side (places 4, 14 and
+ * 23 of a comparison). */
 #define RAVINEBOWL_ABSENT (-1)
 
 /* The code of a status. 1 to 9 are refusals; where several apply, the first in the order that a call names stands. */
@@ -66,7 +66,7 @@ struct ravinebowl_status {
     size_t second;   /* the second place number, or 0 where there is none */
 };
 
-/* The kind of a nearest feature. Edge: strictly between its ends. */
+/* The kind of a nearest feature. Within: in the piece or on its border, so that the gap is 0. Edge: strictly between its ends. */
 enum ravinebowl_feature { RAVINEBOWL_WITHIN = 0, RAVINEBOWL_CORNER = 1, RAVINEBOWL_EDGE = 2 };
 
 /* The kind of a comparison. */
@@ -87,7 +87,11 @@ enum ravinebowl_nearest_place {
 /* The places of the result list of ravinebowl_compare, and its length.
  * Done: places 4 to 12 have the answer, the corner of greatest gap. Spent: they have the worst so far, the greatest gap found in the steps
  * made, which is never above the answer's; where there is none yet place 4 is 0 and places 5 to 12 are -1. A comparison that is spent cannot
- * be continued: call again with more steps. A support corner is the corner of an outline that the sweep has come to. */
+ * be continued: call again with more steps. A support corner is the corner of an outline that the sweep has come to.
+ * Places 14 to 22 have what places 4 to 12 have, in their order, of A's corners alone, and places 23 to 31 of B's; there is no clearance of
+ * a side. Done: the corner of the outline's greatest gap; where all its gaps are 0, its corner 0, within. Spent: the outline's worst so far;
+ * where there is none yet place 14, or 23, is 0 and the eight after it are -1. Places 4 to 12 repeat the one of greater gap, A's where the
+ * gaps are equal; spent, the one that there is where the other outline has none. */
 enum ravinebowl_compare_place {
     RAVINEBOWL_COMPARE_KIND = 0,           /* enum ravinebowl_comparison */
     RAVINEBOWL_COMPARE_STEPS = 1,          /* the steps made: done, the number of edges of both outlines; spent, the allowance */
@@ -104,11 +108,30 @@ enum ravinebowl_compare_place {
     RAVINEBOWL_COMPARE_D = 12,
     RAVINEBOWL_COMPARE_CLEARANCE = 13,     /* done: the smallest whole number of millimetres whose square is not below the gap, so not below
                                             * the distance, and above it by less than 1 mm; at most 45,255. Spent: -1 */
-    RAVINEBOWL_COMPARE_LENGTH = 14
+    RAVINEBOWL_COMPARE_SIDE_A = 14,        /* has RAVINEBOWL_SIDE_A; spent: 0 where A has no worst so far */
+    RAVINEBOWL_COMPARE_CORNER_A = 15,
+    RAVINEBOWL_COMPARE_FEATURE_A = 16,
+    RAVINEBOWL_COMPARE_FEATURE_NUMBER_A = 17,
+    RAVINEBOWL_COMPARE_GAP_UPPER_A = 18,
+    RAVINEBOWL_COMPARE_GAP_LOWER_A = 19,
+    RAVINEBOWL_COMPARE_X_A = 20,
+    RAVINEBOWL_COMPARE_Y_A = 21,
+    RAVINEBOWL_COMPARE_D_A = 22,
+    RAVINEBOWL_COMPARE_SIDE_B = 23,        /* has RAVINEBOWL_SIDE_B; spent: 0 where B has no worst so far */
+    RAVINEBOWL_COMPARE_CORNER_B = 24,
+    RAVINEBOWL_COMPARE_FEATURE_B = 25,
+    RAVINEBOWL_COMPARE_FEATURE_NUMBER_B = 26,
+    RAVINEBOWL_COMPARE_GAP_UPPER_B = 27,
+    RAVINEBOWL_COMPARE_GAP_LOWER_B = 28,
+    RAVINEBOWL_COMPARE_X_B = 29,
+    RAVINEBOWL_COMPARE_Y_B = 30,
+    RAVINEBOWL_COMPARE_D_B = 31,
+    RAVINEBOWL_COMPARE_LENGTH = 32
 };
 
-/* Compares outlines A and B in at most `allowance` steps and writes 14 numbers to `result`. It is done if the allowance is not below the
- * number of edges of both, and otherwise spent. When done, the gap is the squared Hausdorff distance.
+/* Compares outlines A and B in at most `allowance` steps and writes 32 numbers to `result`. It is done if the allowance is not below the
+ * number of edges of both, and otherwise spent. When done, the gap is the squared Hausdorff distance, and A's gap and B's are the two
+ * squared directed Hausdorff distances, from A to B and from B to A, of which it is the greater.
  * Order: 100, then 1 to 6 for A, then 1 to 6 for B. */
 struct ravinebowl_status ravinebowl_compare(const int32_t *a, size_t a_length, const int32_t *b, size_t b_length, uint32_t allowance,
                                             int64_t *result, size_t result_length);

@@ -45,8 +45,16 @@ extern "C" {
 }
 
 /// The lengths of the result lists.
-pub const COMPARE_LENGTH: usize = 14;
+pub const COMPARE_LENGTH: usize = 32;
 pub const NEAREST_LENGTH: usize = 7;
+
+/// Where the numbers of the worst corner begin in the result list of a comparison, of A's and of B's.
+const WORST_PLACE: usize = 4;
+const WORST_A_PLACE: usize = 14;
+const WORST_B_PLACE: usize = 23;
+
+/// Where the clearance is.
+const CLEARANCE_PLACE: usize = 13;
 
 /// A number of steps that is enough for any comparison.
 pub const ENOUGH_STEPS: u32 = 512;
@@ -98,20 +106,25 @@ pub struct CornerGap {
 }
 
 /// What comparing gives. Done: the corner of greatest gap, and the clearance, the smallest whole number of millimetres whose
-/// square is not below that gap, at most 45,255. Spent: the allowance was below the number of edges; the support corners and
-/// the worst so far, if there is one.
+/// square is not below that gap, at most 45,255; and of each outline the corner of greatest gap, which is its corner 0, within,
+/// where all its gaps are 0. Spent: the allowance was below the number of edges; the support corners and the worst so far, if
+/// there is one, of both outlines and of each.
 #[derive(Clone, Copy, Debug, PartialEq, Eq)]
 pub enum Comparison {
     Done {
         steps: u32,
         answer: CornerGap,
         clearance: u64,
+        answer_a: CornerGap,
+        answer_b: CornerGap,
     },
     Spent {
         steps: u32,
         support_a: usize,
         support_b: usize,
         worst: Option<CornerGap>,
+        worst_a: Option<CornerGap>,
+        worst_b: Option<CornerGap>,
     },
 }
 
@@ -258,29 +271,40 @@ fn nearest(numbers: [i64; NEAREST_LENGTH]) -> NearestPoint {
     }
 }
 
+/// The corner that the nine numbers from a place of a result list on give, or none.
+fn corner_gap(result: &[i64; COMPARE_LENGTH], place: usize) -> Option<CornerGap> {
+    let at = |i: usize| result[place + i];
+    side(at(0)).map(|side| CornerGap {
+        side,
+        corner: at(1) as usize,
+        nearest: nearest([at(2), at(3), at(4), at(5), at(6), at(7), at(8)]),
+    })
+}
+
 /// Compares two outlines in at most `allowance` steps.
 pub fn compare(a: &[i32], b: &[i32], allowance: u32) -> Result<Comparison, Refusal> {
     let mut result = [0; COMPARE_LENGTH];
     compare_into(a, b, allowance, &mut result).answered()?;
-    let [kind, steps, support_a, support_b, of, corner, feature, number, upper, lower, x, y, d, clearance] =
-        result;
+    let [kind, steps, support_a, support_b, ..] = result;
     let steps = steps as u32;
-    let worst = side(of).map(|side| CornerGap {
-        side,
-        corner: corner as usize,
-        nearest: nearest([feature, number, upper, lower, x, y, d]),
-    });
-    Ok(match (kind, worst) {
-        (0, Some(answer)) => Comparison::Done {
+    let worst = corner_gap(&result, WORST_PLACE);
+    let worst_a = corner_gap(&result, WORST_A_PLACE);
+    let worst_b = corner_gap(&result, WORST_B_PLACE);
+    Ok(match (kind, worst, worst_a, worst_b) {
+        (0, Some(answer), Some(answer_a), Some(answer_b)) => Comparison::Done {
             steps,
             answer,
-            clearance: clearance as u64,
+            clearance: result[CLEARANCE_PLACE] as u64,
+            answer_a,
+            answer_b,
         },
         _ => Comparison::Spent {
             steps,
             support_a: support_a as usize,
             support_b: support_b as usize,
             worst,
+            worst_a,
+            worst_b,
         },
     })
 }

@@ -4,23 +4,29 @@ and crates/call_cases/stdout.
 Run without arguments from anywhere. The same seed gives the same files, on any machine. The input has the number of
 cases, and for each how many numbers A's list has and the numbers, the same of B's, and eight numbers: x and y of a
 point, the length of the result list for its nearest point, a corner number in two parts (over 2^32, and the rest), the
-length of the list to write in removing it, an allowance, and the length of the result list of comparing.
+length of the list to write in removing it, an allowance, and the length of the result list of comparing. The script
+prints how many cases there are, and how many comparisons of each kind.
 """
 from collections import Counter
+from itertools import product
 from pathlib import Path
 
 from call_reference import COMPARE_LENGTH, NEAREST_LENGTH, answers, c_compare, line
 from call_reference import nearest_point, read_outline, remove_corner
 from fit import spoiled
 from pairs import CLOCKWISE, LARGEST, LARGEST_ALLOWANCE, LOWER, MOVED, SQUARE, STAR, STRAIGHT, TRIANGLE, TURNED, UPPER
-from pairs import Random, beside, from_corner, from_edges, large, middling, near_tie, numbers, opposite, rounded
-from pairs import roundings, small
-from reference import LIMIT, corners, edge, is_within, minus, refusal, side_number
+from pairs import AROUND, SIDES, Random, beside, from_corner, from_edges, large, middling, near_tie, near_tie_of_sides
+from pairs import numbers, opposite, rounded, roundings, small
+from reference import LIMIT, Comparing, corners, edge, is_within, minus, refusal, side_number
 
 SEED = 20261116
 LARGEST_COORDINATE, LEAST_COORDINATE = 2**31 - 1, -2**31
 LARGEST_CORNER = 2**64 - 1
 LONGEST_LIST = 520
+# A wrong length of a result list, the longest for the nearest point: the places of a comparison before those of A. And the
+# longest result list of comparing.
+BEFORE_SIDES = 14
+LONGEST_RESULT = 40
 FLAT = [0, 0, 9, 0, 0, 3]
 PARABOLA = numbers([(i, i * i - 8000) for i in range(-127, 129)])
 
@@ -39,9 +45,18 @@ STATED = [
     (read_outline([0]), "read refused 1"),
     (remove_corner(SQUARE, 1, 6), "remove done list 0 0 4 4 0 4"),
     (remove_corner(TRIANGLE, 1, 4), "remove refused 2 list 77 77 77 77"),
-    (c_compare(SQUARE, TRIANGLE, 4, COMPARE_LENGTH), "c_compare 0 0 0 0 0 list 1 4 2 2 1 2 2 1 256 32 64 64 32 -1"),
-    (c_compare(SQUARE, TRIANGLE, 7, COMPARE_LENGTH), "c_compare 0 0 0 0 0 list 0 7 -1 -1 1 2 2 1 256 32 64 64 32 3"),
-    (c_compare(SQUARE, MOVED, 8, COMPARE_LENGTH), "c_compare 0 0 0 0 0 list 0 8 -1 -1 1 0 1 0 100 1 10 0 1 10"),
+    # Kind, steps and support corners, the overall corner, the clearance, A's corner, B's corner.
+    (c_compare(SQUARE, TRIANGLE, 3, COMPARE_LENGTH), "c_compare 0 0 0 0 0 list 1 3 2 1 0 -1 -1 -1 -1 -1 -1 -1 -1 -1 "
+     "0 -1 -1 -1 -1 -1 -1 -1 -1 0 -1 -1 -1 -1 -1 -1 -1 -1"),
+    (c_compare(SQUARE, TRIANGLE, 4, COMPARE_LENGTH), "c_compare 0 0 0 0 0 list 1 4 2 2 1 2 2 1 256 32 64 64 32 -1 "
+     "1 2 2 1 256 32 64 64 32 0 -1 -1 -1 -1 -1 -1 -1 -1"),
+    (c_compare(TRIANGLE, SQUARE, 4, COMPARE_LENGTH), "c_compare 0 0 0 0 0 list 1 4 2 2 2 2 2 1 256 32 64 64 32 -1 "
+     "0 -1 -1 -1 -1 -1 -1 -1 -1 2 2 2 1 256 32 64 64 32"),
+    (c_compare(SQUARE, TRIANGLE, 7, COMPARE_LENGTH), "c_compare 0 0 0 0 0 list 0 7 -1 -1 1 2 2 1 256 32 64 64 32 3 "
+     "1 2 2 1 256 32 64 64 32 2 0 0 -1 0 1 0 0 1"),
+    (c_compare(SQUARE, MOVED, 8, COMPARE_LENGTH), "c_compare 0 0 0 0 0 list 0 8 -1 -1 1 0 1 0 100 1 10 0 1 10 "
+     "1 0 1 0 100 1 10 0 1 2 1 1 1 100 1 4 0 1"),
+    (c_compare(SQUARE, TRIANGLE, 7, BEFORE_SIDES), "c_compare 100 0 0 0 0 list" + 14 * " 77"),
 ]
 
 
@@ -92,8 +107,8 @@ def numbers_for(random, a, b):
     edges = n + len(b) // 2
     some = random.below(edges + 1)
     allowance = random.one_of([0, 1, some, max(edges - 1, 0), edges, edges, edges + 1, LARGEST_ALLOWANCE])
-    nearest_length = often(random, NEAREST_LENGTH, [0, NEAREST_LENGTH - 1, NEAREST_LENGTH + 1, COMPARE_LENGTH])
-    compare_length = often(random, COMPARE_LENGTH, [0, NEAREST_LENGTH, COMPARE_LENGTH - 1, COMPARE_LENGTH + 1])
+    nearest_length = often(random, NEAREST_LENGTH, [0, NEAREST_LENGTH - 1, NEAREST_LENGTH + 1, BEFORE_SIDES])
+    compare_length = often(random, COMPARE_LENGTH, [0, BEFORE_SIDES, COMPARE_LENGTH - 1, COMPARE_LENGTH + 1])
     return [x, y, nearest_length, corner, out_length, allowance, compare_length]
 
 
@@ -148,6 +163,40 @@ def generated(random):
     yield a, opposite(a)
 
 
+def of_sides(random):
+    """Pairs for what the two sides show, with allowances."""
+    for k in (0, 7, 14, 21, 28):
+        yield from showing_others(*SIDES[k])
+    for a, b in ((SQUARE, MOVED), (TURNED, SQUARE), (AROUND, TRIANGLE)):
+        yield from showing_others(a, b)
+    for k in (4, 13, 22, 31):
+        b, a = SIDES[k]
+        yield from showing_others(a, b)
+    for _ in range(4):
+        a, b = near_tie_of_sides(random)
+        yield numbers(a), numbers(b), len(a) + len(b)
+
+
+def showing_others(a, b):
+    """The pair with each allowance for which other corners are shown than for one less, and with the edge count."""
+    comparing = Comparing(corners(a), corners(b))
+    edges = (len(a) + len(b)) // 2
+    shown = None
+    for allowance in range(edges + 1):
+        *_, sides = comparing.found(allowance)
+        if sides != shown or allowance == edges:
+            shown = sides
+            yield a, b, allowance
+
+
+def of_lengths():
+    """Result lists of comparing that are too short or too long; at last with outlines that would be refused."""
+    for length in (0, 7, 13, BEFORE_SIDES, 15, 23, COMPARE_LENGTH - 1, COMPARE_LENGTH + 1, LONGEST_RESULT):
+        yield SQUARE, TRIANGLE, [4, 5, NEAREST_LENGTH, 0, 6, 7, length]
+    yield SQUARE, TRIANGLE, [4, 5, NEAREST_LENGTH, 0, 6, 3, BEFORE_SIDES]
+    yield STAR, [0], [4, 5, NEAREST_LENGTH, 0, 8, 7, BEFORE_SIDES]
+
+
 def cases():
     random = Random(SEED)
     yield from worked()
@@ -158,6 +207,10 @@ def cases():
     for b, a, _ in rounded():
         x, y = next(corner for corner in b if corner not in a)
         yield numbers(a), numbers(b), [x, y, NEAREST_LENGTH, 0, 2 * len(a) - 2, len(a) + len(b), COMPARE_LENGTH]
+    # What the two sides show, and the nearest point to B's first corner.
+    for a, b, allowance in of_sides(random):
+        yield a, b, [b[0], b[1], NEAREST_LENGTH, 0, len(a) - 2, allowance, COMPARE_LENGTH]
+    yield from of_lengths()
 
 
 def kinds(text):
@@ -202,14 +255,35 @@ def check_coverage(given):
     assert sum(on_border(v, piece) for v, piece in points) >= 10
     assert sum(is_within(v, piece) and not on_border(v, piece) for v, piece in points) >= 10
     assert max(out_length for _, _, (*_, out_length, _, _) in given) <= LONGEST_LIST
+    assert max(nearest_length for _, _, (_, _, nearest_length, *_) in given) <= BEFORE_SIDES
+    lengths = {compare_length for _, _, (*_, compare_length) in given}
+    assert lengths >= {0, BEFORE_SIDES, COMPARE_LENGTH - 1, COMPARE_LENGTH, COMPARE_LENGTH + 1}
+    assert max(lengths) == LONGEST_RESULT
+    answered = answered_places(given)
+    # Done: within, a corner or an edge, of A's corner and of B's. Spent: none, a corner or an edge.
+    found = {(places[0], places[16], places[25]) for places in answered}
+    expected = {*product((0,), (0, 1, 2), (0, 1, 2)), *product((1,), (-1, 1, 2), (-1, 1, 2))}
+    assert found == expected, found ^ expected
     # Comparisons that are done: the gap is in places 8 and 9 of the list, the clearance in place 13.
-    lists = [answers(*one)[-1].partition(" list ") for one in given]
-    done = [[int(n) for n in places.split()] for status, _, places in lists if status == "c_compare 0 0 0 0 0"]
-    done = [places for places in done if places[0] == 0]
+    done = [places for places in answered if places[0] == 0]
     counted = Counter()
     for places in done:
         counted.update(roundings(places[8], places[9]))
     assert min(counted.values()) >= 1 and max(places[13] for places in done) == 45255, counted
+
+
+def answered_places(given):
+    """The result lists of the comparisons that answer."""
+    lists = [answers(*one)[-1].partition(" list ") for one in given]
+    return [[int(n) for n in places.split()] for status, _, places in lists if status == "c_compare 0 0 0 0 0"]
+
+
+def table(given):
+    """How many comparisons of each kind there are, by what A and B show: places 16 and 25 have the features."""
+    words = {-1: "none", 0: "within", 1: "corner", 2: "edge"}
+    counted = Counter((places[0], places[16], places[25]) for places in answered_places(given))
+    for (kind, a, b), count in sorted(counted.items()):
+        yield f"{count:6} {'spent' if kind else 'done'}, A's {words[a]}, B's {words[b]}"
 
 
 def main():
@@ -226,6 +300,7 @@ def main():
         printed += answers(a, b, [x, y, nearest_length, corner, *others])
     (crate / "stdin").write_bytes("".join(f"{one}\n" for one in lines).encode())
     (crate / "stdout").write_bytes("".join(f"{one}\n" for one in printed).encode())
+    print(f"{len(given)} cases", *table(given), sep="\n")
 
 
 if __name__ == "__main__":

@@ -15,7 +15,7 @@ FILL = 77
 ABSENT = -1
 WRONG_RESULT_LENGTH = (100,)
 NEAREST_LENGTH = 7
-COMPARE_LENGTH = 14
+COMPARE_LENGTH = 32
 DONE, SPENT = 0, 1
 NO_SIDE, SIDE_A, SIDE_B = 0, 1, 2
 FEATURES = ["within", "corner", "edge"]
@@ -78,16 +78,24 @@ def nearest_places(near):
     return [FEATURES.index(kind), *(number or [ABSENT]), near.gap.upper, near.gap.lower, near.x, near.y, near.lower]
 
 
+def corner_places(comparing, corner):
+    """The side, the corner, and the places of its nearest point; for none, no side and nothing else."""
+    if corner is None:
+        return [NO_SIDE] + [ABSENT] * 8
+    s, i = corner
+    return [[SIDE_A, SIDE_B][s], i] + nearest_places(comparing.nearest(s, i))
+
+
 def compare_places(a, b, allowance):
+    """Kind, steps, support corners, the overall corner and the clearance; then A's corner, and B's."""
     comparing = Comparing(corners(a), corners(b))
-    done, steps, support, worst = comparing.found(allowance)
-    if worst is None:
-        corner = [NO_SIDE] + [ABSENT] * 8
-    else:
-        corner = [[SIDE_A, SIDE_B][worst[0]], worst[1]] + nearest_places(comparing.nearest(*worst))
+    done, steps, support, overall, sides = comparing.found(allowance)
+    shown, of_a, of_b = (corner_places(comparing, corner) for corner in [overall] + sides)
     if done:
-        return [DONE, steps, ABSENT, ABSENT] + corner + [clearance(comparing.nearest(*worst).gap)]
-    return [SPENT, steps] + support + corner + [ABSENT]
+        first = [DONE, steps, ABSENT, ABSENT] + shown + [clearance(comparing.gap(overall))]
+    else:
+        first = [SPENT, steps] + support + shown + [ABSENT]
+    return first + of_a + of_b
 
 
 def c_nearest_point(point, numbers, length):

@@ -2,14 +2,17 @@
 `stdin` and `stdout` of these crates.
 
 Run without arguments from anywhere; the files do not change. Each case is an input of the program fit, chosen by hand,
-and beside it stands what fit is to print, its lines joined by commas. The first three programs are fit on one case each.
-The input of `fit_cases` has its cases one after another, each ended by a byte 255, which is in no case; its output has
-what fit prints for each.
+and beside it stands what fit is to print, its lines joined by commas. The first three programs are fit on one case
+each. The input of `fit_cases` has its cases one after another, each ended by a byte 255, which is in no case; its
+output has what fit prints for each. The script prints how many cases there are, and of which kinds.
 """
+from collections import Counter
+from itertools import product
 from pathlib import Path
 
 from fit_reference import LARGEST_INPUT, fit
-from pairs import CLOCKWISE, LARGEST, LOWER, MOVED, SQUARE, STAR, STRAIGHT, TRIANGLE, TURNED, UPPER, numbers, opposite
+from pairs import AROUND, CLOCKWISE, LARGEST, LOWER, MOVED, SQUARE, STAR, STRAIGHT, TRIANGLE, TURNED, UPPER, numbers
+from pairs import opposite
 
 END = b"\xff"
 
@@ -19,9 +22,11 @@ EXAMPLE_PRINTED = b"""gap 256/32
 mm 3
 from A 2
 to edge 1 at 64/32 64/32
+from B 0
+to within at 0/1 0/1
 steps 7
 """
-SAME_AS_EXAMPLE = "gap 256/32, mm 3, from A 2, to edge 1 at 64/32 64/32, steps 7"
+SAME_AS_EXAMPLE = "gap 256/32, mm 3, from A 2, to edge 1 at 64/32 64/32, from B 0, to within at 0/1 0/1, steps 7"
 
 
 def text(*lists):
@@ -38,46 +43,73 @@ TURNED_OVER = numbers(opposite(PARABOLA))
 FEATURES = [
     # The example and the others of comparing; the points (6,6) and (12,9) as the worst corner of a triangle.
     (text(SQUARE, TRIANGLE), SAME_AS_EXAMPLE),
-    (text(SQUARE, MOVED), "gap 100/1, mm 10, from A 0, to corner 0 at 10/1 0/1, steps 8"),
-    (text(SQUARE, SQUARE), "gap 0/1, mm 0, from A 0, to within at 0/1 0/1, steps 8"),
-    (text(SQUARE, TURNED), "gap 0/1, mm 0, from A 0, to within at 0/1 0/1, steps 8"),
-    (text(TURNED, SQUARE), "gap 0/1, mm 0, from A 0, to within at 4/1 0/1, steps 8"),
-    (text(LOWER, UPPER), "gap 4095872001/2, mm 45255, from A 0, to edge 1 at 31999/2 31999/2, steps 6"),
-    (text([0, 0, 9, 0, 6, 6], [0, 0, 9, 0, 0, 3]), "gap 2025/90, mm 5, from A 2, to edge 1 at 405/90 135/90, steps 6"),
-    (text([0, 0, 9, 0, 12, 9], [0, 0, 9, 0, 0, 3]), "gap 90/1, mm 10, from A 2, to corner 1 at 9/1 0/1, steps 6"),
+    (text(SQUARE, MOVED),
+     "gap 100/1, mm 10, from A 0, to corner 0 at 10/1 0/1, from B 1, to corner 1 at 4/1 0/1, steps 8"),
+    (text(SQUARE, SQUARE), "gap 0/1, mm 0, from A 0, to within at 0/1 0/1, from B 0, to within at 0/1 0/1, steps 8"),
+    (text(SQUARE, TURNED), "gap 0/1, mm 0, from A 0, to within at 0/1 0/1, from B 0, to within at 4/1 0/1, steps 8"),
+    (text(TURNED, SQUARE), "gap 0/1, mm 0, from A 0, to within at 4/1 0/1, from B 0, to within at 0/1 0/1, steps 8"),
+    (text(LOWER, UPPER),
+     "gap 4095872001/2, mm 45255, from A 0, to edge 1 at 31999/2 31999/2, "
+     "from B 0, to edge 1 at -31999/2 -31999/2, steps 6"),
+    (text([0, 0, 9, 0, 6, 6], [0, 0, 9, 0, 0, 3]),
+     "gap 2025/90, mm 5, from A 2, to edge 1 at 405/90 135/90, from B 2, to edge 2 at 108/72 108/72, steps 6"),
+    (text([0, 0, 9, 0, 12, 9], [0, 0, 9, 0, 0, 3]),
+     "gap 90/1, mm 10, from A 2, to corner 1 at 9/1 0/1, from B 2, to edge 2 at 324/225 243/225, steps 6"),
     # 16,000 is taken.
-    (text(LARGEST, SQUARE), "gap 512000000/1, mm 22628, from A 0, to corner 0 at 0/1 0/1, steps 8"),
-    # The worst corner is B's: over an edge; over a corner, A in B.
-    (text(TRIANGLE, SQUARE), "gap 256/32, mm 3, from B 2, to edge 1 at 64/32 64/32, steps 7"),
-    (text(SQUARE, [-10, -10, 10, -10, 10, 10, -10, 10]), "gap 200/1, mm 15, from B 0, to corner 0 at 0/1 0/1, steps 8"),
+    (text(LARGEST, SQUARE),
+     "gap 512000000/1, mm 22628, from A 0, to corner 0 at 0/1 0/1, from B 0, to within at 0/1 0/1, steps 8"),
+    # The worst corner is B's, all gaps of A being zero: over an edge; over a corner, A in B.
+    (text(TRIANGLE, SQUARE),
+     "gap 256/32, mm 3, from A 0, to within at 0/1 0/1, from B 2, to edge 1 at 64/32 64/32, steps 7"),
+    (text(SQUARE, AROUND),
+     "gap 200/1, mm 15, from A 0, to within at 0/1 0/1, from B 0, to corner 0 at 0/1 0/1, steps 8"),
     # The nearest point has negative coordinates: on a corner, on an edge, within.
-    (text(SQUARE, [-9, -20, -5, -20, -5, -16, -9, -16]), "gap 481/1, mm 22, from A 2, to corner 2 at -5/1 -16/1, steps 8"),
-    (text(UPPER, LOWER), "gap 4095872001/2, mm 45255, from A 0, to edge 1 at -31999/2 -31999/2, steps 6"),
-    (text([-9, -9, -5, -9, -7, -5], [-5, -9, -7, -5, -9, -9]), "gap 0/1, mm 0, from A 0, to within at -9/1 -9/1, steps 6"),
+    (text(SQUARE, [-9, -20, -5, -20, -5, -16, -9, -16]),
+     "gap 481/1, mm 22, from A 2, to corner 2 at -5/1 -16/1, from B 0, to corner 0 at 0/1 0/1, steps 8"),
+    (text(UPPER, LOWER),
+     "gap 4095872001/2, mm 45255, from A 0, to edge 1 at -31999/2 -31999/2, "
+     "from B 0, to edge 1 at 31999/2 31999/2, steps 6"),
+    (text([-9, -9, -5, -9, -7, -5], [-5, -9, -7, -5, -9, -9]),
+     "gap 0/1, mm 0, from A 0, to within at -9/1 -9/1, from B 0, to within at -5/1 -9/1, steps 6"),
     # Large fractions: over an edge nearly from one end of the range to the other, far from it and close to its end.
     (text([-16000, -16000, 16000, -16000, -16000, 16000], [-16000, -16000, 15999, 16000, -16000, 16000]),
-     "gap 1048576000000000000/2047936001, mm 22628, from A 1, to edge 0 at -1023984000/2047936001 -16000/2047936001, steps 6"),
+     "gap 1048576000000000000/2047936001, mm 22628, from A 1, to edge 0 at -1023984000/2047936001 -16000/2047936001, "
+     "from B 1, to edge 1 at -1024000000/2048000000 1024000000/2048000000, steps 6"),
     (text([16000, 16000, -16000, -15990, -15999, -16000, 16000, -16000], [16000, 16000, -15999, -16000, 16000, -16000]),
-     "gap 123896960100/2047936001, mm 8, from A 1, to edge 0 at -32755712336000/2047936001 -32757759984000/2047936001, steps 7"),
+     "gap 123896960100/2047936001, mm 8, from A 1, to edge 0 at -32755712336000/2047936001 -32757759984000/2047936001, "
+     "from B 0, to within at 16000/1 16000/1, steps 7"),
     # A gap below 1, and gaps at and beside the square of a whole number.
-    (text([0, 0, 1, 0, 1, 1, 0, 1], [0, 0, 1, 0, 0, 1]), "gap 1/2, mm 1, from A 2, to edge 1 at 1/2 1/2, steps 7"),
-    (text([0, 0, 4, 0, 4, 4, 0, 5], SQUARE), "gap 1/1, mm 1, from A 3, to corner 3 at 0/1 4/1, steps 8"),
-    (text([0, 0, 3, 0, 5, 2, 0, 4], [0, 0, 3, 0, 0, 4]), "gap 196/25, mm 3, from A 2, to edge 1 at 69/25 8/25, steps 7"),
-    (text([0, 0, 3, 0, 3, 5, 0, 4], [0, 0, 3, 0, 0, 4]), "gap 225/25, mm 3, from A 2, to edge 1 at 15/25 80/25, steps 7"),
+    (text([0, 0, 1, 0, 1, 1, 0, 1], [0, 0, 1, 0, 0, 1]),
+     "gap 1/2, mm 1, from A 2, to edge 1 at 1/2 1/2, from B 0, to within at 0/1 0/1, steps 7"),
+    (text([0, 0, 4, 0, 4, 4, 0, 5], SQUARE),
+     "gap 1/1, mm 1, from A 3, to corner 3 at 0/1 4/1, from B 0, to within at 0/1 0/1, steps 8"),
+    (text([0, 0, 3, 0, 5, 2, 0, 4], [0, 0, 3, 0, 0, 4]),
+     "gap 196/25, mm 3, from A 2, to edge 1 at 69/25 8/25, from B 0, to within at 0/1 0/1, steps 7"),
+    (text([0, 0, 3, 0, 3, 5, 0, 4], [0, 0, 3, 0, 0, 4]),
+     "gap 225/25, mm 3, from A 2, to edge 1 at 15/25 80/25, from B 0, to within at 0/1 0/1, steps 7"),
     # Equal gaps: the lower number although it comes later in the angular order; 8/1 before 256/32, and after it.
-    (text([1, -1, 1, 1, -1, 1, -1, -1], [11, -1, 11, 1, 9, 1, 9, -1]), "gap 100/1, mm 10, from A 2, to corner 2 at 9/1 1/1, steps 8"),
-    (text([-2, -2, 4, 0, 4, 4, 0, 4], TRIANGLE), "gap 8/1, mm 3, from A 0, to corner 0 at 0/1 0/1, steps 7"),
-    (text([4, 4, 0, 4, -2, -2, 4, 0], TRIANGLE), "gap 256/32, mm 3, from A 0, to edge 1 at 64/32 64/32, steps 7"),
+    (text([1, -1, 1, 1, -1, 1, -1, -1], [11, -1, 11, 1, 9, 1, 9, -1]),
+     "gap 100/1, mm 10, from A 2, to corner 2 at 9/1 1/1, from B 0, to corner 0 at 1/1 -1/1, steps 8"),
+    (text([-2, -2, 4, 0, 4, 4, 0, 4], TRIANGLE),
+     "gap 8/1, mm 3, from A 0, to corner 0 at 0/1 0/1, from B 0, to within at 0/1 0/1, steps 7"),
+    (text([4, 4, 0, 4, -2, -2, 4, 0], TRIANGLE),
+     "gap 256/32, mm 3, from A 0, to edge 1 at 64/32 64/32, from B 0, to within at 0/1 0/1, steps 7"),
     # Gaps that are equal as floats: A0's is smaller than A2's by less than a part in 2^53.
     (text([7102, -10352, 0, -1205, -8645, -8007], [0, -10458, 6452, -461, -6821, 26]),
-     "gap 5463561603296281/156440297, mm 5910, from A 2, to edge 2 at -577491977609/156440297 -748437042790/156440297, steps 6"),
+     "gap 5463561603296281/156440297, mm 5910, from A 2, to edge 2 at -577491977609/156440297 -748437042790/156440297, "
+     "from B 1, to edge 0 at 277096859072/134106013 -518483829857/134106013, steps 6"),
     # A crosses B, no corner within the other.
     (text([-9, -1, 9, -1, 9, 1, -9, 1], [-1, -5, 1, -5, 1, 5, -1, 5]),
-     "gap 6400/100, mm 8, from A 0, to edge 3 at -100/100 -100/100, steps 8"),
+     "gap 6400/100, mm 8, from A 0, to edge 3 at -100/100 -100/100, from B 0, to edge 0 at -324/324 -324/324, steps 8"),
     # 256 corners: one above the other, the second turned over, and against three.
-    (text(ROUND, RAISED), "gap 10000/1, mm 100, from A 127, to corner 127 at 0/1 -7900/1, steps 512"),
-    (text(ROUND, TURNED_OVER), "gap 163840/1, mm 405, from A 255, to corner 127 at 0/1 8000/1, steps 512"),
-    (text(TRIANGLE, ROUND), "gap 70240784/1, mm 8381, from B 255, to corner 2 at 0/1 4/1, steps 259"),
+    (text(ROUND, RAISED),
+     "gap 10000/1, mm 100, from A 127, to corner 127 at 0/1 -7900/1, "
+     "from B 255, to corner 255 at 128/1 8384/1, steps 512"),
+    (text(ROUND, TURNED_OVER),
+     "gap 163840/1, mm 405, from A 255, to corner 127 at 0/1 8000/1, "
+     "from B 255, to corner 127 at 0/1 -8000/1, steps 512"),
+    (text(TRIANGLE, ROUND),
+     "gap 70240784/1, mm 8381, from A 0, to within at 0/1 0/1, from B 255, to corner 2 at 0/1 4/1, steps 259"),
 ]
 
 LAYOUTS = [
@@ -89,8 +121,10 @@ LAYOUTS = [
     # Leading zeros; a minus before zero, which prints 0.
     (b"00004 0 00 0004 000 04 004 00000 00004 03 0 0 4 0 0 00004", SAME_AS_EXAMPLE),
     (b"4 -0 0 4 -00 4 4 -00000 4 3 0 -0 4 0 0 4", SAME_AS_EXAMPLE),
-    (b"3 -0 -0 4 0 0 4 3 4 0 0 4 -0 -0", "gap 0/1, mm 0, from A 0, to within at 0/1 0/1, steps 6"),
-    (b"3 -0004 00 -0 -004 004 0 3 -4 0 4 0 0 4", "gap 1024/64, mm 4, from A 1, to edge 0 at 0/64 0/64, steps 6"),
+    (b"3 -0 -0 4 0 0 4 3 4 0 0 4 -0 -0",
+     "gap 0/1, mm 0, from A 0, to within at 0/1 0/1, from B 0, to within at 4/1 0/1, steps 6"),
+    (b"3 -0004 00 -0 -004 004 0 3 -4 0 4 0 0 4",
+     "gap 1024/64, mm 4, from A 1, to edge 0 at 0/64 0/64, from B 2, to edge 2 at 0/64 0/64, steps 6"),
     # 16,384 bytes: filled up after the last number, before the first, and between.
     (EXAMPLE.ljust(LARGEST_INPUT), SAME_AS_EXAMPLE),
     (EXAMPLE.rjust(LARGEST_INPUT, b"\n"), SAME_AS_EXAMPLE),
@@ -177,22 +211,52 @@ UNREADABLE = [
     EXAMPLE.ljust(LARGEST_INPUT + 1), EXAMPLE.rjust(LARGEST_INPUT + 1), b"257 ".ljust(LARGEST_INPUT + 1), b"4" * LARGEST_INPUT,
 ]
 
+SIDES = [
+    # All gaps of both are zero, of A alone, of B alone: corner 0 of each, on an edge of the other, and inside it.
+    (text(TRIANGLE, [0, 4, 0, 0, 4, 0]),
+     "gap 0/1, mm 0, from A 0, to within at 0/1 0/1, from B 0, to within at 0/1 4/1, steps 6"),
+    (text([2, 0, 4, 2, 2, 4, 0, 2], SQUARE),
+     "gap 16/8, mm 2, from A 0, to within at 2/1 0/1, from B 0, to edge 3 at 8/8 8/8, steps 8"),
+    (text([1, 1, 2, 1, 1, 2], AROUND),
+     "gap 242/1, mm 16, from A 0, to within at 1/1 1/1, from B 0, to corner 0 at 1/1 1/1, steps 7"),
+    (text(SQUARE, [2, 0, 4, 2, 2, 4, 0, 2]),
+     "gap 16/8, mm 2, from A 0, to edge 3 at 8/8 8/8, from B 0, to within at 2/1 0/1, steps 8"),
+    (text(AROUND, [1, 1, 2, 1, 1, 2]),
+     "gap 242/1, mm 16, from A 0, to corner 0 at 1/1 1/1, from B 0, to within at 1/1 1/1, steps 7"),
+    # A's and B's greatest gaps are equal as values, 8/1 and 256/32: the gap printed is A's.
+    (text([-2, -2, 4, 0, 0, 4], SQUARE),
+     "gap 8/1, mm 3, from A 0, to corner 0 at 0/1 0/1, from B 2, to edge 1 at 64/32 64/32, steps 7"),
+    (text(SQUARE, [-2, -2, 4, 0, 0, 4]),
+     "gap 256/32, mm 3, from A 2, to edge 1 at 64/32 64/32, from B 0, to corner 0 at 0/1 0/1, steps 7"),
+    # B's is greater: the two have the same whole part, 36/10 and 64/17; they differ by less than a part in 2^53.
+    (text([1, 2, -2, 2, 2, -2], [-1, 3, -1, -1, 2, 0, 3, 2]),
+     "gap 64/17, mm 2, from A 2, to edge 1 at 14/10 -2/10, from B 3, to edge 2 at 19/17 26/17, steps 7"),
+    (text([-7865, -252, 0, -13565, 13644, -7984, 6898, 290], [-10652, -14657, 0, -13565, 6898, 290, -7865, -252]),
+     "gap 22619755726606336/239094194, mm 9727, "
+     "from A 2, to edge 1 at 1182600480166/239543429 -874090631100/239543429, "
+     "from B 0, to edge 0 at -544574047160/239094194 -2321518172018/239094194, steps 8"),
+    # Equal gaps of B: the lower number, 3600/100, although 36/1 is counted before it.
+    (text([4, 2, -6, 4, -4, 1, 6, 1], [3, -5, -2, 5, -4, -5]),
+     "gap 3600/100, mm 6, from A 3, to edge 0 at 150/125 -175/125, from B 0, to edge 2 at 300/100 100/100, steps 7"),
+]
+
 # The one case of each program that is fit itself: the example; one whose answer differs in every line; one of which the
 # first 16,384 bytes alone would be answered.
 SINGLE = {
     "fit": (EXAMPLE, SAME_AS_EXAMPLE),
     "fit_other": (b"4\n-9 -20\n-5 -20\n-5 -16\n-9 -16\n5\n7 -31\n12 5\n-2 9\n-30 8\n-40 -3\n",
-                  "gap 1130/1, mm 34, from B 4, to corner 3 at -9/1 -16/1, steps 9"),
+                  "gap 1130/1, mm 34, from A 0, to within at -9/1 -20/1, from B 4, to corner 3 at -9/1 -16/1, steps 9"),
     "fit_long": (EXAMPLE.rjust(LARGEST_INPUT) + b"\n", "unreadable"),
 }
 
-CASES = FEATURES + LAYOUTS + REFUSED + [(case, "unreadable") for case in UNREADABLE]
+CASES = FEATURES + LAYOUTS + REFUSED + [(case, "unreadable") for case in UNREADABLE] + SIDES
 
 
 def kind(said):
-    """A printed text by its words alone: the side and the feature of a gap, the side and the number of a refusal."""
+    """A printed text by its words alone: the features for A's corner and B's, the side and the number of a refusal."""
     words = said.split()
-    return (words[5], words[8]) if words[0] == "gap" else tuple(words[:3])
+    features = tuple(feature for word, feature in zip(words, words[1:]) if word == "to")
+    return features if words[0] == "gap" else tuple(words[:3])
 
 
 def check_coverage():
@@ -203,7 +267,7 @@ def check_coverage():
     inputs = [case for case, _ in CASES]
     assert len(set(inputs)) == len(inputs) and not any(END in case for case in inputs)
     assert {len(case) for case in inputs} >= {0, LARGEST_INPUT, LARGEST_INPUT + 1}
-    gaps = {("A", "corner"), ("A", "edge"), ("A", "within"), ("B", "corner"), ("B", "edge")}
+    gaps = set(product(("within", "corner", "edge"), repeat=2))
     refusals = {("refused", side, number) for side in "AB" for number in "23456"}
     assert {kind(said) for _, said in CASES} == gaps | refusals | {("unreadable",)}
 
@@ -227,6 +291,9 @@ def main():
     for name, (case, said) in SINGLE.items():
         store(name, case, printed(case, said))
     store("fit_cases", b"".join(case + END for case, _ in CASES), b"".join(printed(*case) for case in CASES))
+    print(f"{len(CASES)} cases")
+    for words, count in sorted(Counter(kind(said) for _, said in CASES).items()):
+        print(f"{count:6} {' '.join(words)}")
 
 
 if __name__ == "__main__":

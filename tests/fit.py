@@ -173,9 +173,11 @@ def show(name, data, expected, found):
 
 
 def kinds(printed):
-    """The kind of a response, and the same with the feature of the nearest point, or with the side and number of a refusal."""
+    """The kind of a response, and the same with the features for A's corner and B's, or with the side and number of a
+    refusal."""
     words = printed.decode().split()
-    closer = {"gap": words[7:9], "refused": words[1:3], "unreadable": []}[words[0]]
+    to = [f"to {feature}" for word, feature in zip(words, words[1:]) if word == "to"]
+    closer = {"gap": to, "refused": words[1:3], "unreadable": []}[words[0]]
     return {words[0], " ".join(words[:1] + closer)}
 
 

@@ -1,10 +1,12 @@
-"""The program fit, from the requirements alone: `fit(data)` takes the bytes of standard input and gives the bytes that it must write.
+"""The program fit, from the requirements alone: `fit(data)` takes the bytes of standard input and gives the bytes that
+it must write.
 
-Written apart from the proved code, for comparison with it. Comparing is `reference.py`'s, every corner against every edge.
+Written apart from the proved code, for comparison with it. Comparing is `reference.py`'s, every corner against every
+edge.
 """
 import re
 
-from reference import compare
+from reference import DONE, compare
 
 LARGEST_INPUT = 16 * 1024
 LARGEST_COUNT = 256
@@ -50,13 +52,21 @@ def read(data):
     return a, b
 
 
+def pair_of_lines(shown):
+    """One side's corner and its nearest point."""
+    side, corner, *feature, _, x, y = shown.split()
+    return f"from {side} {corner}\nto {' '.join(feature)} at {x} {y}\n"
+
+
 def printed(text):
-    """What `compare` says, as the program prints it: a refusal as it is, and five lines when done."""
+    """What `compare` says, as the program prints it: a refusal as it is, and seven lines when done.
+
+    The gap and the clearance are the overall ones; then come A's corner and B's."""
     if text.startswith("refused"):
         return text + "\n"
-    done, steps, side, corner, *feature, gap, x, y, clearance = text.split()
-    assert done == "done"
-    return f"gap {gap}\nmm {clearance}\nfrom {side} {corner}\nto {' '.join(feature)} at {x} {y}\nsteps {steps}\n"
+    steps, answer, clearance, a, b = DONE.fullmatch(text).groups()
+    gap = answer.split()[-3]
+    return f"gap {gap}\nmm {clearance}\n{pair_of_lines(a)}{pair_of_lines(b)}steps {steps}\n"
 
 
 def fit(data):

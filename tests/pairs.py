@@ -1,17 +1,22 @@
-"""Writes the input of the program `pairs`, and the answers that `reference.py` gives: crates/pairs/stdin and crates/pairs/stdout.
+"""Writes the input of the program `pairs`, and the answers that `reference.py` gives: crates/pairs/stdin and
+crates/pairs/stdout.
 
-Run without arguments from anywhere. The same seed gives the same files, on any machine: whole numbers only, and a generator of its own.
-The input has, for each pair, how many numbers A's list has and the numbers, the same of B's, and how many allowances there are and these.
+Run without arguments from anywhere. The same seed gives the same files, on any machine: whole numbers only, and a
+generator of its own. The input has, for each pair, how many numbers A's list has and the numbers, the same of B's, and
+how many allowances there are and these. The script prints how many pairs and answers there are, and of which kinds.
 """
 from collections import Counter
 from functools import cmp_to_key
 from math import gcd, isqrt
 from pathlib import Path
 
-from reference import LIMIT, Comparing, compare, compare_all, corners, half, is_within, refusal, side_number
+from reference import DONE, LIMIT, SPENT, Comparing, Fraction, compare, compare_all, corners, half, is_within
+from reference import refusal, side_number
 
 SEED = 20261115
 LARGEST_ALLOWANCE = 2**32 - 1
+# The room, in bytes, that the program has for its input.
+LARGEST_INPUT = 2**20
 
 
 class Random:
@@ -143,8 +148,8 @@ def beside(random, piece):
     return from_points(random, max(reach, 1), random.between(3, 12))
 
 
-def near_tie(random):
-    """Two corners of A, over two edges of B, with the two greatest gaps, which differ by less than a part in 2^53.
+def over_two_edges(random):
+    """Without end: a triangle, two points over its edges 0 and 2, and their gaps multiplied by the same number.
 
     The gaps are s²/L and t²/M. For edges of squared lengths L and M, s/t is a convergent of the root of L/M."""
     while True:
@@ -157,13 +162,31 @@ def near_tie(random):
         for s, t in convergents(lengths[0], lengths[1]):
             k = random.between(1, 40)
             sides = (k * s, k * t)
-            corners = [over(b[0], runs[0], lengths[0], sides[0]), over(b[2], runs[1], lengths[1], sides[1])]
-            if None in corners:
-                continue
-            a = hull(corners + [(0, random.between(-2000, -500))])
-            x, y = s * s * lengths[1], t * t * lengths[0]
-            if len(a) == 3 and fits(a) and x != y and abs(x - y) << 53 < x and two_greatest(a, b, corners):
-                return a, b
+            points = [over(b[0], runs[0], lengths[0], sides[0]), over(b[2], runs[1], lengths[1], sides[1])]
+            if None not in points:
+                yield b, points, (s * s * lengths[1], t * t * lengths[0])
+
+
+def nearly_equal(x, y):
+    """They differ, but by less than a part in 2^53."""
+    return x != y and abs(x - y) << 53 < x
+
+
+def near_tie(random):
+    """Two corners of A, over two edges of B, with the two greatest gaps, which are nearly equal."""
+    for b, points, gaps in over_two_edges(random):
+        a = hull(points + [(0, random.between(-2000, -500))])
+        if len(a) == 3 and fits(a) and nearly_equal(*gaps) and two_greatest(a, b, points):
+            return a, b
+
+
+def near_tie_of_sides(random):
+    """A and B are a triangle with one more corner each, over different edges of it. No other corner of either is
+    outside the other, and the two gaps are nearly equal."""
+    for triangle, points, gaps in over_two_edges(random):
+        a, b = (hull(triangle + [point]) for point in points)
+        if len(a) == len(b) == 4 and fits(a + b) and nearly_equal(*gaps):
+            return a, b
 
 
 def two_greatest(a, b, corners):
@@ -237,18 +260,76 @@ LARGEST = [-16000, -16000, 16000, -16000, 16000, 16000, -16000, 16000]
 
 
 # The values of the specification's examples.
+S_TO_T = "A 2 edge 1 256/32 64/32 64/32"
+T_TO_S = "B 2 edge 1 256/32 64/32 64/32"
+S_TO_MOVED = "A 0 corner 0 100/1 10/1 0/1"
+A_WITHIN, B_WITHIN = "A 0 within 0/1 0/1 0/1", "B 0 within 0/1 0/1 0/1"
+LOWER_TO_UPPER = "A 0 edge 1 4095872001/2 31999/2 31999/2"
 STATED = [
-    (SQUARE, TRIANGLE, 512, "done 7 A 2 edge 1 256/32 64/32 64/32 3"),
-    (SQUARE, TRIANGLE, 0, "spent 0 0 0 none"),
-    (SQUARE, TRIANGLE, 3, "spent 3 2 1 none"),
-    (SQUARE, TRIANGLE, 4, "spent 4 2 2 A 2 edge 1 256/32 64/32 64/32"),
-    (SQUARE, MOVED, 8, "done 8 A 0 corner 0 100/1 10/1 0/1 10"),
-    (SQUARE, SQUARE, 8, "done 8 A 0 within 0/1 0/1 0/1 0"),
-    (LOWER, UPPER, 6, "done 6 A 0 edge 1 4095872001/2 31999/2 31999/2 45255"),
+    (SQUARE, TRIANGLE, 512, f"done 7 {S_TO_T} 3 {S_TO_T} {B_WITHIN}"),
+    (SQUARE, TRIANGLE, 0, "spent 0 0 0 none none none"),
+    (SQUARE, TRIANGLE, 3, "spent 3 2 1 none none none"),
+    (SQUARE, TRIANGLE, 4, f"spent 4 2 2 {S_TO_T} {S_TO_T} none"),
+    (TRIANGLE, SQUARE, 4, f"spent 4 2 2 {T_TO_S} none {T_TO_S}"),
+    (TRIANGLE, SQUARE, 7, f"done 7 {T_TO_S} 3 {A_WITHIN} {T_TO_S}"),
+    (SQUARE, MOVED, 0, "spent 0 0 0 none none none"),
+    (SQUARE, MOVED, 1, f"spent 1 1 0 {S_TO_MOVED} {S_TO_MOVED} B 0 corner 1 36/1 4/1 0/1"),
+    (SQUARE, MOVED, 8, f"done 8 {S_TO_MOVED} 10 {S_TO_MOVED} B 1 corner 1 100/1 4/1 0/1"),
+    (SQUARE, SQUARE, 7, "spent 7 0 3 none none none"),
+    (SQUARE, SQUARE, 8, f"done 8 {A_WITHIN} 0 {A_WITHIN} {B_WITHIN}"),
+    (SQUARE, TURNED, 8, f"done 8 {A_WITHIN} 0 {A_WITHIN} B 0 within 0/1 4/1 0/1"),
+    (LOWER, UPPER, 6, f"done 6 {LOWER_TO_UPPER} 45255 {LOWER_TO_UPPER} B 0 edge 1 4095872001/2 -31999/2 -31999/2"),
     (STAR, SQUARE, 0, "refused A 6 0 3"),
     (STRAIGHT, SQUARE, 0, "refused A 6 0 2"),
     (SQUARE, CLOCKWISE, 0, "refused B 6 0 2"),
 ]
+
+# Pairs for what the two sides show, which are taken exchanged too, all allowances each.
+AROUND = [-10, -10, 10, -10, 10, 10, -10, 10]
+SIDES = [
+    # Nested: off the border; a corner of the inner one on an edge of the outer one; all on edges; all on corners; along
+    # an edge; a long outer one; the outer one without a corner.
+    (SQUARE, AROUND),
+    ([9, 3, 1, 8, -7, -5], AROUND),
+    ([2, 0, 4, 3, 1, 3], SQUARE),
+    ([2, 0, 4, 2, 2, 4, 0, 2], SQUARE),
+    ([4, 4, 0, 4, 0, 0], SQUARE),
+    ([1, 0, 3, 0, 2, 2], [4, 0, 2, 9, 0, 0]),
+    ([1, 1, 2, 1, 1, 2], [0, 4, 0, 0, 40, 0]),
+    ([6, 0, 9, 3, 9, 6, 6, 9, 3, 9, 0, 6, 0, 3], [6, 0, 9, 3, 9, 6, 6, 9, 3, 9, 0, 6, 0, 3, 3, 0]),
+    # Equal, listed from other corners.
+    (TRIANGLE, [0, 4, 0, 0, 4, 0]),
+    ([3, 0, 6, 1, 8, 5, 4, 7, 0, 4], [4, 7, 0, 4, 3, 0, 6, 1, 8, 5]),
+    # Apart, touching, crossing: both sides have gaps.
+    (TURNED, MOVED),
+    (SQUARE, [4, 4, 9, 4, 4, 9]),
+    ([-9, -1, 9, -1, 9, 1, -9, 1], [-1, -5, 1, -5, 1, 5, -1, 5]),
+    ([3, 0, -4, 4, 1, 1], [3, 4, 4, 7, -2, 7]),
+    ([-1, 2, -2, 1, 1, 1], [-1, 3, 0, 5, -1, 5, -3, 4, -3, 3]),
+    # The greatest gaps of both sides are equal: over corners; over edges; as values alone, in each of which one is over
+    # a corner and the other over an edge, or both over edges.
+    (SQUARE, [7, 4, 11, 4, 11, 8, 7, 8]),
+    ([2, 1, 1, 4, -1, -2, 1, -4, 2, -2], [3, -2, -1, 1, 4, -6]),
+    ([3, -4, 3, 3, -1, 1, -4, -4], [-4, -3, 1, 0, -5, 3]),
+    ([2, 1, -1, 1, -1, 0, 1, -2], [4, -2, 2, 1, 1, -2]),
+    ([-2, -2, 4, 0, 0, 4], SQUARE),
+    ([1, 0, 1, 2, -1, 2, -2, 0], [1, -3, -2, 1, -3, 0, -2, -1]),
+    ([1, 2, 0, 1, 0, -2, 2, -2], [-3, 0, -2, 1, -5, -1]),
+    ([-1, -2, 0, -2, 2, 2], [3, -2, 1, 0, 2, -2]),
+    # They have the same whole part; the smaller gap has the smaller upper number, and the greater one.
+    ([1, 2, -2, 2, 2, -2], [-1, 3, -1, -1, 2, 0, 3, 2]),
+    ([1, 2, -1, 2, 0, -2], [-1, -1, -1, -2, 2, -1, 2, 1, 0, 1]),
+    ([-2, 1, -3, -4, 2, -1, 1, 1], [-6, 1, -6, -5, 0, -3]),
+    ([-6, 4, 0, -4, 6, -2], [2, 7, -2, 2, 3, 3]),
+    # Equal gaps on one side, the lower number counted later: the same fraction, and as values alone.
+    ([1, -1, 1, 1, -1, 1, -1, -1], [11, -1, 11, 1, 9, 1, 9, -1]),
+    ([-2, -2, 2, -3, 3, -3, -2, -1], [0, 2, 1, 0, 4, 4, -1, 5]),
+    ([0, 0, -2, -1, -2, -4], [-1, -3, 3, -5, 3, 1]),
+    ([4, 2, -6, 4, -4, 1, 6, 1], [3, -5, -2, 5, -4, -5]),
+    ([1, 3, -2, 0, -2, -3, 1, -2], [2, 0, 1, 2, -3, 1, -3, -2]),
+]
+# How many near ties of the two sides.
+NEAR_TIES_OF_SIDES = 12
 
 
 # Gaps at and beside the square k² of a whole number, with the clearance. A square moved: k², k² + 1, k² - 1.
@@ -338,6 +419,16 @@ def generated(random):
         yield moved(a, random.between(-900, 900), 7), a
 
 
+def of_sides(random):
+    """The pairs for what the two sides show."""
+    for a, b in SIDES:
+        yield a, b
+        yield b, a
+    for _ in range(NEAR_TIES_OF_SIDES):
+        a, b = near_tie_of_sides(random)
+        yield numbers(a), numbers(b)
+
+
 def pairs():
     random = Random(SEED)
     yield from worked()
@@ -348,6 +439,8 @@ def pairs():
             yield a, b, allowances(random, a, b)
     for a, b, _ in rounded():
         yield numbers(a), numbers(b), [len(a) + len(b)]
+    for a, b in of_sides(random):
+        yield a, b, list(range((len(a) + len(b)) // 2 + 1))
 
 
 def position(a, b):
@@ -360,6 +453,75 @@ def position(a, b):
     return "overlapping" if any(a_within) or any(b_within) else "apart"
 
 
+def gap_of(shown):
+    return Fraction(*map(int, shown.split()[-3].split("/")))
+
+
+def which(a, b):
+    """In words, of which sides something holds."""
+    return {(0, 0): "none", (1, 0): "A alone", (0, 1): "B alone", (1, 1): "both"}[int(a), int(b)]
+
+
+def shown_kinds(text):
+    """What is to be counted of a text: what a spent report shows; which sides of an answer have all gaps zero, and how
+    their greatest gaps compare, if they are above zero."""
+    if text.startswith("spent"):
+        *_, a, b = SPENT.fullmatch(text).groups()
+        yield f"spent, shown: {which(a != 'none', b != 'none')}"
+    if text.startswith("done"):
+        _, answer, _, a, b = DONE.fullmatch(text).groups()
+        g, h = gap_of(a), gap_of(b)
+        yield f"done, zero: {which(g.upper == 0, h.upper == 0)}"
+        if g.upper and h.upper:
+            lower = "the same" if g.lower == h.lower else "other"
+            order = "equal" if g == h else f"{'B' if g < h else 'A'}'s greater"
+            assert (answer == b) == (g < h) and answer in (a, b)
+            yield f"done, both above zero: {order}"
+            if g == h:
+                yield f"done, equal, over {lower} lower number{'' if g.lower == h.lower else 's'}"
+            elif g.upper // g.lower == h.upper // h.lower:
+                yield f"done, the same whole part: {order}"
+            if nearly_equal(g.upper * h.lower, h.upper * g.lower):
+                yield f"done, nearly equal: {order}"
+
+
+def step_kinds(before, after):
+    """What is to be counted of two spent reports, the second with a step more: a corner that takes the place of another
+    of equal gap, overall and of a side."""
+    *_, before_all, before_a, before_b = SPENT.fullmatch(before).groups()
+    *_, after_all, after_a, after_b = SPENT.fullmatch(after).groups()
+    for name, one, two in (("overall", before_all, after_all), ("A", before_a, after_a), ("B", before_b, after_b)):
+        if one != "none" and one != two and gap_of(one) == gap_of(two):
+            yield f"a step, of equals the one counted later stands: {name}"
+            if one[0] != two[0]:
+                yield "a step, of equals the one counted later stands: A's after B's"
+
+
+def count_sides(given, answers):
+    counted = Counter()
+    for (_, _, allowances), texts in zip(given, answers):
+        spent = {allowance: text for allowance, text in zip(allowances, texts) if text.startswith("spent")}
+        for text in texts:
+            counted.update(shown_kinds(text))
+        for allowance in spent:
+            if allowance + 1 in spent:
+                counted.update(step_kinds(spent[allowance], spent[allowance + 1]))
+    return counted
+
+
+def check_sides(counted):
+    """Every kind comes, and often enough."""
+    kinds = {f"spent, shown: {one}" for one in ("none", "A alone", "B alone", "both")}
+    kinds |= {f"done, zero: {one}" for one in ("none", "A alone", "B alone", "both")}
+    kinds |= {f"done, both above zero: {one}" for one in ("equal", "A's greater", "B's greater")}
+    kinds |= {"done, equal, over the same lower number", "done, equal, over other lower numbers"}
+    kinds |= {f"done, {near}: {one}'s greater" for near in ("the same whole part", "nearly equal") for one in "AB"}
+    names = ("overall", "A", "B", "A's after B's")
+    kinds |= {f"a step, of equals the one counted later stands: {name}" for name in names}
+    assert set(counted) == kinds, set(counted) ^ kinds
+    assert min(counted.values()) >= 3, counted
+
+
 def check_coverage(given, answers):
     """The pairs have what they are to have, whatever the seed. The last answer for a pair is done, if accepted."""
     accepted = [(corners(a), corners(b)) for a, b, _ in given if not (refusal(a) or refusal(b))]
@@ -367,11 +529,12 @@ def check_coverage(given, answers):
     positions = [position(a, b) for a, b in accepted]
     assert all(positions.count(one) >= 100 for one in ("same", "nested", "overlapping", "apart"))
     assert {min(len(a), len(b)) for a, b in accepted} >= {3} and {max(len(a), len(b)) for a, b in accepted} >= {256}
-    done = [texts[-1].split() for texts in answers if texts[-1].startswith("done")]
-    assert len(done) == len(accepted) and max(int(words[-1]) for words in done) == 45255
+    done = [DONE.fullmatch(texts[-1]).groups() for texts in answers if texts[-1].startswith("done")]
+    assert len(done) == len(accepted) and max(int(clearance) for _, _, clearance, _, _ in done) == 45255
     counted = Counter()
-    for words in done:
-        counted.update(roundings(*map(int, words[-4].split("/"))))
+    for _, answer, *_ in done:
+        gap = gap_of(answer)
+        counted.update(roundings(gap.upper, gap.lower))
     assert min(counted.values()) >= 3, counted
 
 
@@ -379,16 +542,22 @@ def main():
     for a, b, allowance, text in STATED:
         assert compare(a, b, allowance) == text, text
     for a, b, clearance in rounded():
-        assert compare(numbers(a), numbers(b), 512).split()[-1] == str(clearance), (a, b)
+        text = compare(numbers(a), numbers(b), 512)
+        assert DONE.fullmatch(text).group(3) == str(clearance), (a, b)
     given = list(pairs())
     answers = [compare_all(*one) for one in given]
     check_coverage(given, answers)
+    counted = count_sides(given, answers)
+    check_sides(counted)
     crate = Path(__file__).resolve().parent.parent / "crates" / "pairs"
-    with open(crate / "stdin", "w", newline="\n") as numbers_file, open(crate / "stdout", "w", newline="\n") as answers_file:
-        for one, texts in zip(given, answers):
-            for part in one:
-                print(len(part), *part, file=numbers_file)
-            print(*texts, sep="\n", file=answers_file)
+    lines = [" ".join(map(str, (len(part), *part))) for one in given for part in one]
+    stdin = "".join(f"{line}\n" for line in lines).encode()
+    assert len(stdin) <= LARGEST_INPUT, len(stdin)
+    (crate / "stdin").write_bytes(stdin)
+    (crate / "stdout").write_bytes("".join(f"{text}\n" for texts in answers for text in texts).encode())
+    print(f"{len(given)} pairs, {sum(map(len, answers))} answers")
+    for kind, count in sorted(counted.items()):
+        print(f"{count:6} {kind}")
 
 
 if __name__ == "__main__":

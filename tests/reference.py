@@ -1,15 +1,21 @@
 """Comparing two outlines, from the requirements alone: whole numbers only, every corner against every edge.
 
-Written apart from the proved code, for comparison with it. `compare(a, b, allowance)` takes two lists of numbers and gives the text that
-the program `pairs` prints for them:
+Written apart from the proved code, for comparison with it. `compare(a, b, allowance)` takes two lists of numbers and
+gives the text that the program `pairs` prints for them:
     refused SIDE NUMBER [PLACE..]
-    spent STEPS A-CORNER B-CORNER none
-    spent STEPS A-CORNER B-CORNER SIDE CORNER FEATURE GAP X Y
-    done STEPS SIDE CORNER FEATURE GAP X Y CLEARANCE
+    spent STEPS A-CORNER B-CORNER WORST A-WORST B-WORST
+    done STEPS ANSWER CLEARANCE A-ANSWER B-ANSWER
+Each answer is SIDE CORNER FEATURE GAP X Y, and each worst so far that or `none`: the overall one, then A's and B's.
 """
+import re
 from functools import cmp_to_key
 
 LIMIT = 16000
+
+# The forms of the texts: the groups are their parts, a corner that is shown being one part.
+SHOWN = r"[AB] \d+ (?:within|corner \d+|edge \d+) \d+/\d+ -?\d+/\d+ -?\d+/\d+"
+DONE = re.compile(rf"done (\d+) ({SHOWN}) (\d+) ({SHOWN}) ({SHOWN})")
+SPENT = re.compile(rf"spent (\d+) (\d+) (\d+) (none|{SHOWN}) (none|{SHOWN}) (none|{SHOWN})")
 
 
 def side_number(p, q, v):
@@ -173,56 +179,98 @@ class Comparing:
             self.gaps[s, i] = nearest(self.pieces[s][i], self.pieces[1 - s])
         return self.gaps[s, i]
 
+    def gap(self, corner):
+        return self.nearest(*corner).gap
+
     def worse(self, one, two):
-        """Of two corners the one with the greater gap; of equals A's before B's, then the lower number."""
-        g, h = self.nearest(*one).gap, self.nearest(*two).gap
-        if g == h:
+        """Of two corners the one with the greater gap; of equals A's before B's, then the lower number. Either may be
+        None, for no corner."""
+        if one is None or two is None:
+            return two if one is None else one
+        if self.gap(one) == self.gap(two):
             return min(one, two)
-        return two if g < h else one
+        return two if self.gap(one) < self.gap(two) else one
 
     def sweep(self, steps):
-        """The support corners and the worst so far, as (side, corner) or None, after some steps."""
+        """The support corners after some steps; the worst so far over both sides at once; that of A, and that of B.
+
+        A worst so far is (side, corner), or None."""
         support = [next(i for t, i in self.order if t == s) for s in (0, 1)]
-        worst = None
+        worst, sides = None, [None, None]
         for side, number in self.order[:steps]:
             for s in (0, 1):
                 corner = (s, support[s])
                 if counts(self.nearest(*corner), self.pieces[1 - s], support[1 - s]):
-                    worst = corner if worst is None else self.worse(worst, corner)
+                    worst, sides[s] = self.worse(worst, corner), self.worse(sides[s], corner)
             support[side] = (number + 1) % len(self.pieces[side])
-        return support, worst
+        return support, worst, sides
 
-    def exhaustive(self):
-        """A's corners by number, then B's; a later one takes the place only if its gap is greater."""
+    def exhaustive(self, s):
+        """One side: its corner 0 at first; a later corner takes its place only if its gap is greater."""
+        worst = (s, 0)
+        for i in range(len(self.pieces[s])):
+            if self.gap(worst) < self.gap((s, i)):
+                worst = (s, i)
+        return worst
+
+    def exhaustive_at_once(self):
+        """Both sides at once: A's corner 0 at first, then A's corners by number, then B's."""
         worst = (0, 0)
         for s in (0, 1):
             for i in range(len(self.pieces[s])):
-                if self.nearest(*worst).gap < self.nearest(s, i).gap:
+                if self.gap(worst) < self.gap((s, i)):
                     worst = (s, i)
         return worst
 
+    def overall(self, sides):
+        """Of what A and B show the one with the greater gap, A's of equals; the other's where one shows none."""
+        a, b = sides
+        if a is None or b is None:
+            return b if a is None else a
+        return b if self.gap(a) < self.gap(b) else a
+
     def named(self, corner):
+        if corner is None:
+            return "none"
         near = self.nearest(*corner)
         x, y = f"{near.x}/{near.lower}", f"{near.y}/{near.lower}"
         return f"{'AB'[corner[0]]} {corner[1]} {near.feature} {near.gap} {x} {y}"
 
     def found(self, allowance):
-        """Whether it is done, the steps made, the support corners, and the answer or the worst so far, as (side, corner) or None."""
+        """Whether it is done, the steps made, the support corners; the overall answer or worst so far; A's, and B's.
+
+        An answer or worst so far is (side, corner), or None."""
         n = len(self.order)
         steps = min(allowance, n)
-        support, worst = self.sweep(steps)
+        support, worst, sides = self.sweep(steps)
+        assert worst == self.overall(sides), "the worst over both sides at once is not the worse of the two"
+        true = [self.exhaustive(s) for s in (0, 1)]
         if allowance < n:
-            return False, steps, support, worst
+            for one, most in zip(sides, true):
+                assert one is None or not self.gap(most) < self.gap(one), "a worst so far above the worst of its side"
+            return False, steps, support, worst, sides
+        for s in (0, 1):
+            if sides[s] is None:
+                gaps = [self.gap((s, i)) for i in range(len(self.pieces[s]))]
+                assert all(gap.upper == 0 for gap in gaps), "a side with a gap above 0 was not counted"
+                assert self.nearest(s, 0).feature == "within"
+                sides[s] = (s, 0)
+        assert sides == true, "the sweep and the exhaustive search of a side differ"
         answer = (0, 0) if worst is None else worst
-        assert answer == self.exhaustive(), "the sweep and the exhaustive search differ"
-        return True, steps, support, answer
+        assert answer == self.exhaustive_at_once(), "the sweep and the exhaustive search differ"
+        assert answer == self.overall(sides), "the overall answer is not the worse of the two"
+        return True, steps, support, answer, sides
 
     def report(self, allowance):
-        done, steps, support, worst = self.found(allowance)
+        done, steps, support, overall, (a, b) = self.found(allowance)
+        sides = f"{self.named(a)} {self.named(b)}"
         if done:
-            return f"done {steps} {self.named(worst)} {clearance(self.nearest(*worst).gap)}"
-        shown = "none" if worst is None else self.named(worst)
-        return f"spent {steps} {support[0]} {support[1]} {shown}"
+            text = f"done {steps} {self.named(overall)} {clearance(self.gap(overall))} {sides}"
+            assert DONE.fullmatch(text)
+        else:
+            text = f"spent {steps} {support[0]} {support[1]} {self.named(overall)} {sides}"
+            assert SPENT.fullmatch(text)
+        return text
 
 
 def compare_all(a, b, allowances):

@@ -17,7 +17,7 @@ const FILL: i32 = 77;
 const RESULT_FILL: i64 = 77;
 
 // A longer result list than any call asks for.
-const LONGEST_RESULT: usize = 20;
+const LONGEST_RESULT: usize = 40;
 
 // The numbers of a case beside its lists, and the place in the input after them. A corner number is there in two parts.
 struct Given {

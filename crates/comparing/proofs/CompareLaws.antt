@@ -1,5 +1,6 @@
 -- Comparing makes the steps of the sweep and reports what they find.
---     answer-positive      the gap of an answer has a lower number above 0
+--     orWithin-bounded     the gap of a side's answer can be compared exactly
+--     worse-positive       and the gap of the worse of two has a lower number above 0
 --     stepsMade            the steps that are made: all N, or as many as are allowed
 --     reportOf-after       what is reported after them is `report`
 --     pairOf               the pair of two outlines' values
@@ -12,13 +13,14 @@
 --     run-can-step, run-on     a step can be made while there is one to make, and after it the invariant holds again
 --     compare-reports      the report of the state after the steps that are made is `report`
 use Prim.Native.Nat.{ℕ, suc, _+_, _<_, _≤_}
-use mathlib.Core.Path.{_≡_, refl, sym}
+use mathlib.Core.Path.{_≡_, refl, sym, _∙_}
 use mathlib.Core.Bool.{Bool, true, false, cond}
 use native.Mathlib.Numerals.{add-one}
 use native.Mathlib.Omega.{arith}
-use lib.Dec.{ltb}
+use lib.Dec.{ltb, lit<}
 use lib.ListN.{length}
 use Rattle.integers.specs.Fraction.{isLess}
+use Rattle.integers.specs.code.Fraction.{Bounded}
 use Rattle.plane.specs.declared.Corner.{Corner}
 use Rattle.outline.specs.declared.Outline.{Outline}
 use Rattle.outline.specs.code.Held.{IsOutline}
@@ -29,12 +31,14 @@ use Rattle.outline.proofs.HeldLaws.{length-cornersOf, cornersOf-corner}
 use Rattle.outline.proofs.CornersLaws.{before-below, after-below}
 use Rattle.outline.specs.declared.Side.{Side}
 use Rattle.outline.specs.declared.Side.the-variants.{A, B}
+use Rattle.hausdorff.specs.declared.CornerGap.{CornerGap}
 use Rattle.hausdorff.specs.declared.WorstSoFar.{WorstSoFar}
 use Rattle.hausdorff.specs.declared.WorstSoFar.the-variants.{None, Worst}
+use Rattle.hausdorff.specs.declared.Report.{Report}
 use Rattle.hausdorff.specs.declared.Report.the-variants as Report
 use Rattle.hausdorff.specs.Pair.{Pair, both, stepCount}
 use Rattle.hausdorff.specs.code.Pair.{AcceptedPair}
-use Rattle.hausdorff.specs.code.Worst.{overall}
+use Rattle.hausdorff.specs.CornerGap.{worse}
 use Rattle.hausdorff.specs.Law.{orWithin}
 use Rattle.hausdorff.specs.code.Report.{spent, done, report}
 use Rattle.hausdorff.specs.code.Lowest.{LowestLeftmost}
@@ -43,32 +47,22 @@ use Rattle.sweep.specs.declared.State.{State}
 use Rattle.measuring.specs.declared.Window.{Window}
 use Rattle.measuring.specs.Window.{windowAt}
 use Rattle.measuring.specs.Changes.{BoundedWorst}
-use Rattle.sweep.specs.State.{sideState, IsAfter, CanStep, BoundedState, beginning}
+use Rattle.sweep.specs.State.{sideState, IsAfter, CanStep, beginning}
 use Rattle.comparing.specs.ReportOf.{reportOf}
 use Rattle.sweep.proofs.BeginLaws.{begins-after}
 
--- the worse of two is one of them
-overall-bounded : (v w : WorstSoFar) → BoundedWorst v → BoundedWorst w → BoundedWorst (overall v w)
-overall-bounded None w of-v of-w = of-w
-overall-bounded (Worst v) None of-v of-w = of-v
-overall-bounded (Worst v) (Worst w) of-v of-w = go (isLess (v .gap) (w .gap))
-  where
-    go : (t : Bool) → BoundedWorst (Worst (cond t w v))
-    go true = of-w
-    go false = of-v
-
 -- within, the gap is 0/1
-orWithin-positive : (first : Corner) (w : WorstSoFar) → BoundedWorst w → 0 < orWithin first w .gap .lower
-orWithin-positive first None bounded = omega arith
-orWithin-positive first (Worst w) bounded = bounded .lower-positive
+pub orWithin-bounded : (s : Side) (first : Corner) (w : WorstSoFar) → BoundedWorst w → Bounded (orWithin s first w .gap)
+orWithin-bounded s first None bounded = record { lower-positive = omega arith; lower-fits = lit< tt }
+orWithin-bounded s first (Worst w) bounded = bounded
 
--- the worst of both sides is bounded where each side's is
-pub answer-positive : (state : State) (first : Corner) → BoundedState state
-    → 0 < orWithin first (overall (state .a .worst) (state .b .worst)) .gap .lower
-answer-positive state first bounded =
-    let worst-a = state .a .worst in let worst-b = state .b .worst in
-    orWithin-positive first (overall worst-a worst-b)
-    (overall-bounded worst-a worst-b (bounded .bounded-a) (bounded .bounded-b))
+-- the worse of two is one of them
+pub worse-positive : (w z : CornerGap) → Bounded (w .gap) → Bounded (z .gap) → 0 < worse w z .gap .lower
+worse-positive w z of-w of-z = go (isLess (w .gap) (z .gap))
+  where
+    go : (t : Bool) → 0 < cond t z w .gap .lower
+    go true = of-z .lower-positive
+    go false = of-w .lower-positive
 
 abbrev pub stepsMade : ℕ → ℕ → ℕ
 stepsMade total allowance = cond (ltb allowance total) allowance total
@@ -76,13 +70,14 @@ stepsMade total allowance = cond (ltb allowance total) allowance total
 -- spent if the allowance is below N, otherwise done
 pub reportOf-after : (pair : Pair) (allowance : ℕ) (state : State)
     → IsAfter pair (stepsMade (stepCount pair) allowance) state
-    → reportOf state (stepsMade (stepCount pair) allowance) (ltb allowance (stepCount pair)) (corner (pair A) 0)
+    → reportOf state (stepsMade (stepCount pair) allowance) (ltb allowance (stepCount pair))
+    (corner (pair A) 0) (corner (pair B) 0)
     ≡ report pair allowance
 unfolding report
 reportOf-after pair allowance state = go (ltb allowance (stepCount pair))
   where
     go : (t : Bool) → IsAfter pair (cond t allowance (stepCount pair)) state
-        → reportOf state (cond t allowance (stepCount pair)) t (corner (pair A) 0)
+        → reportOf state (cond t allowance (stepCount pair)) t (corner (pair A) 0) (corner (pair B) 0)
         ≡ cond t (Report.Spent (spent pair allowance)) (Report.Done (done pair))
     go true is = rw (is .support A, is .support B, is .worst A, is .worst B)
     go false is = rw (is .worst A, is .worst B)
@@ -214,12 +209,14 @@ module _ {a b : Outline} {steps : ℕ} where
 
 module _ {a b : Outline} (outline-a : IsOutline a) (outline-b : IsOutline b) (places-a : length (a .corners) ≡ most)
     (places-b : length (b .corners) ≡ most) (allowance : ℕ) {steps : ℕ} (chosen : steps ≡ stepsMade (a .count + b .count) allowance) where
-  -- the counts together are N, and A's first place has its corner 0
-  pub compare-reports : {state : State} → IsAfter (pairOf a b) steps state
-      → reportOf state steps (ltb allowance (a .count + b .count)) (corner (a .corners) 0)
-      ≡ report (pairOf a b) allowance
-  compare-reports {state} is-after =
-      let counted-a = outline-counted outline-a places-a in
-      let total : a .count + b .count ≡ stepCount (pairOf a b) = omega (arith, counted-a, outline-counted outline-b places-b) in
-      rw (chosen, total, ← cornersOf-corner a 0 (omega (arith, counted-a, outline-a .accepted .at-least)))
+  -- the counts together are N, and each one's first place has its corner 0
+  pub compare-reports : {state : State} {r : Report} → IsAfter (pairOf a b) steps state
+      → r ≡ reportOf state steps (ltb allowance (a .count + b .count)) (corner (a .corners) 0) (corner (b .corners) 0)
+      → r ≡ report (pairOf a b) allowance
+  compare-reports {state} is-after is =
+      let counted-a = outline-counted outline-a places-a in let counted-b = outline-counted outline-b places-b in
+      let total : a .count + b .count ≡ stepCount (pairOf a b) = omega (arith, counted-a, counted-b) in
+      let first-a = cornersOf-corner a 0 (omega (arith, counted-a, outline-a .accepted .at-least)) in
+      let first-b = cornersOf-corner b 0 (omega (arith, counted-b, outline-b .accepted .at-least)) in
+      is ∙ rw (chosen, total, ← first-a, ← first-b)
       (reportOf-after (pairOf a b) allowance state (rw (chosen, total) at is-after))

@@ -70,5 +70,5 @@ pub fn compare(a: Outline, b: Outline, allowance: u32) -> Report
     let is_spent = allowance < total;
     let steps = if is_spent { allowance } else { total };
     let state = make_steps(a, b, steps);
-    reporting::report_of(state, steps, is_spent, a.corners[0])
+    reporting::report_of(state, steps, is_spent, a.corners[0], b.corners[0])
 }

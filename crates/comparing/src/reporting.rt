@@ -2,6 +2,8 @@
 use hausdorff::CornerGap;
 use hausdorff::Done;
 use hausdorff::Report;
+use hausdorff::SideAnswers;
+use hausdorff::SideWorsts;
 use hausdorff::Spent;
 use hausdorff::SupportCorners;
 use hausdorff::WorstSoFar;
@@ -14,12 +16,11 @@ use projection::answers;
 use sweep::State;
 ghost use mathlib.Core.Path.{_≡_};
 ghost use Rattle.integers.specs.code.Fraction.{Bounded};
-ghost use Rattle.hausdorff.specs.CornerGap.{worse};
-ghost use Rattle.hausdorff.specs.code.Worst.{overall};
+ghost use Rattle.hausdorff.specs.CornerGap.{worse, overall};
 ghost use Rattle.hausdorff.specs.Law.{orWithin};
 ghost use Rattle.measuring.specs.Changes.{BoundedWorst};
 ghost use Rattle.sweep.specs.State.{BoundedState};
-ghost use Rattle.comparing.specs.ReportOf.{reportOf};
+ghost use Rattle.comparing.specs.ReportOf.{spentOf, doneOf, reportOf};
 
 // The one with the greater gap; the first of equals.
 fn worse(w: CornerGap, z: CornerGap) -> CornerGap
@@ -49,41 +50,71 @@ fn overall(a: WorstSoFar, b: WorstSoFar) -> WorstSoFar
     }
 }
 
-// The answer: the worst so far after all steps or, if it is none, A's corner 0, at `first`, within.
-fn or_within(worst: WorstSoFar, first: Corner) -> CornerGap
-    ensures { λ r. ⌜ r ≡ orWithin first worst ⌝ }
+// The answer of a side: its worst so far after all steps or, if that is none, its corner 0, at `first`, within.
+fn or_within(side: Side, first: Corner, worst: WorstSoFar) -> CornerGap
+    ensures { λ r. ⌜ r ≡ orWithin side first worst ⌝ }
 {
     match worst {
         WorstSoFar::Worst(w) => w,
-        WorstSoFar::None => measuring::with_corner(Side::A, 0, answers::within(first)),
+        WorstSoFar::None => measuring::with_corner(side, 0, answers::within(first)),
     }
 }
 
-// What there is to report after the steps made. `first` is A's corner 0.
-pub fn report_of(state: State, steps: u32, is_spent: bool, first: Corner) -> Report
+// What is reported after fewer steps than there are.
+fn spent_of(state: State, steps: u32) -> Spent
     requires { ⌜ BoundedState state ⌝ }
-    ensures { λ r. ⌜ r ≡ reportOf state steps «is_spent» first ⌝ }
+    ensures { λ r. ⌜ r ≡ spentOf state steps ⌝ }
+{
+    let side_a = state.a;
+    let side_b = state.b;
+    let a = side_a.worst;
+    let b = side_b.worst;
+    let worst = overall(a, b);
+    Spent {
+        steps: steps,
+        support: SupportCorners {
+            a: side_a.support,
+            b: side_b.support,
+        },
+        worst: worst,
+        sides: SideWorsts { a, b },
+    }
+}
+
+// What is reported after all steps. `first_a` and `first_b` are the corners 0 of A and B.
+fn done_of(state: State, steps: u32, first_a: Corner, first_b: Corner) -> Done
+    requires { ⌜ BoundedState state ⌝ }
+    ensures { λ r. ⌜ r ≡ doneOf state steps «first_a» «first_b» ⌝ }
 {
     let side_a = state.a;
     let side_b = state.b;
     let worst_a = side_a.worst;
     let worst_b = side_b.worst;
-    let worst = overall(worst_a, worst_b);
-    if is_spent {
-        return Report::Spent(Spent {
-            steps: steps,
-            support: SupportCorners {
-                a: side_a.support,
-                b: side_b.support,
-            },
-            worst: worst,
-        });
-    }
-    let answer = or_within(worst, first);
+    let a = or_within(Side::A, first_a, worst_a);
+    let b = or_within(Side::B, first_b, worst_b);
+    let answer = worse(a, b);
     let gap = answer.gap;
-    Report::Done(Done {
+    Done {
         steps: steps,
         answer: answer,
         clearance: root::ceiling_root(gap),
-    })
+        sides: SideAnswers { a, b },
+    }
+}
+
+// What there is to report after the steps made.
+pub fn report_of(
+    state: State,
+    steps: u32,
+    is_spent: bool,
+    first_a: Corner,
+    first_b: Corner,
+) -> Report
+    requires { ⌜ BoundedState state ⌝ }
+    ensures { λ r. ⌜ r ≡ reportOf state steps «is_spent» «first_a» «first_b» ⌝ }
+{
+    if is_spent {
+        return Report::Spent(spent_of(state, steps));
+    }
+    Report::Done(done_of(state, steps, first_a, first_b))
 }

@@ -58,7 +58,7 @@ abbrev pub ofWorst : WorstSoFar → List ℤ
 ofWorst None = pos 0 ∷ replicate 8 absent
 ofWorst (Worst w) = ofCorner w
 
--- rule 9.5, of a comparison: kind, steps made, support corners of A and B, the worst so far, clearance
+-- of both outlines together: kind, steps made, support corners of A and B, the worst so far, clearance
 abbrev pub row : ℤ → ℤ → ℤ → ℤ → WorstSoFar → ℤ → List ℤ
 row kind steps support-a support-b worst clearance =
     kind ∷ steps ∷ support-a ∷ support-b ∷ ofWorst worst ++ (clearance ∷ [])
@@ -71,7 +71,22 @@ ofDone d = row (pos 0) (pos (d .steps)) absent absent (Worst (d .answer)) (pos (
 abbrev pub ofSpent : Spent → List ℤ
 ofSpent p = row (pos 1) (pos (p .steps)) (pos (p .support .a)) (pos (p .support .b)) (p .worst) absent
 
--- of what comparing reports
+-- of what comparing reports of both outlines together
+abbrev pub ofOverall : Report → List ℤ
+ofOverall (Report.Spent p) = ofSpent p
+ofOverall (Report.Done d) = ofDone d
+
+-- what is reported of a side: its answer where the report is done, and else its worst so far or none
+abbrev pub reportedOf : Side → Report → WorstSoFar
+reportedOf A (Report.Spent p) = p .sides .a
+reportedOf B (Report.Spent p) = p .sides .b
+reportedOf A (Report.Done d) = Worst (d .sides .a)
+reportedOf B (Report.Done d) = Worst (d .sides .b)
+
+-- of that
+abbrev pub ofSide : Side → Report → List ℤ
+ofSide s r = ofWorst (reportedOf s r)
+
+-- rule 9.5, of what comparing reports: places 0 to 13 of both outlines together, 14 to 22 of A, and 23 to 31 of B
 abbrev pub ofReport : Report → List ℤ
-ofReport (Report.Spent p) = ofSpent p
-ofReport (Report.Done d) = ofDone d
+ofReport r = ofOverall r ++ ofSide A r ++ ofSide B r

@@ -11,16 +11,25 @@ ghost use mathlib.Core.Path.{_≡_};
 ghost use Prim.Native.Nat.{_^_, _<_};
 ghost use lib.IntN.{pos};
 ghost use Rattle.encoding.specs.Results.{kindOf, numberOf, ofNearest, sideCode, ofCorner, ofWorst, row, ofDone};
-ghost use Rattle.encoding.specs.Results.{ofSpent, ofReport};
+ghost use Rattle.encoding.specs.Results.{ofSpent, ofOverall, reportedOf, ofSide};
+ghost use Rattle.hausdorff.specs.declared.Report.the-variants as Report;
 ghost use Rattle.hausdorff.specs.code.Sizes.{FeatureFits, NearestFits, CornerFits, WorstFits};
 ghost use Rattle.hausdorff.specs.code.Sizes.{DoneFits, SpentFits, ReportFits};
 
-// How many numbers there are of a nearest point, of a corner with its gap, and of a comparison.
+// How many numbers there are of a nearest point, of a corner with its gap, of both outlines of a comparison together,
+// and of a comparison.
 pub const NEAREST_LENGTH: usize = 7;
 
 const CORNER_LENGTH: usize = 9;
 
-pub const COMPARE_LENGTH: usize = 14;
+const OVERALL_LENGTH: usize = 14;
+
+pub const COMPARE_LENGTH: usize = 32;
+
+// Where the numbers of A's corner begin, and of B's.
+pub const SIDE_A_PLACE: usize = 14;
+
+pub const SIDE_B_PLACE: usize = 23;
 
 // The kinds of a comparison.
 const DONE: i64 = 0;
@@ -130,7 +139,7 @@ fn of_worst(worst: WorstSoFar) -> [i64; CORNER_LENGTH]
     }
 }
 
-// The numbers of a comparison: those of the worst so far stand between the first four and the clearance.
+// The numbers of both outlines together: those of the worst so far stand between the first four and the clearance.
 fn row(
     kind: i64,
     steps: i64,
@@ -138,7 +147,7 @@ fn row(
     support_b: i64,
     worst: WorstSoFar,
     clearance: i64,
-) -> [i64; COMPARE_LENGTH]
+) -> [i64; OVERALL_LENGTH]
     requires { ⌜ WorstFits worst ⌝ }
     ensures { λ r. ⌜ r ≡ row kind steps «support_a» «support_b» worst clearance ⌝ }
 {
@@ -162,7 +171,7 @@ fn row(
 }
 
 // The numbers of a comparison that is done.
-fn of_done(d: Done) -> [i64; COMPARE_LENGTH]
+fn of_done(d: Done) -> [i64; OVERALL_LENGTH]
     requires { ⌜ DoneFits d ⌝ }
     ensures { λ r. ⌜ r ≡ ofDone d ⌝ }
 {
@@ -178,7 +187,7 @@ fn of_done(d: Done) -> [i64; COMPARE_LENGTH]
 }
 
 // The numbers of a comparison that is spent.
-fn of_spent(p: Spent) -> [i64; COMPARE_LENGTH]
+fn of_spent(p: Spent) -> [i64; OVERALL_LENGTH]
     requires { ⌜ SpentFits p ⌝ }
     ensures { λ r. ⌜ r ≡ ofSpent p ⌝ }
 {
@@ -195,13 +204,59 @@ fn of_spent(p: Spent) -> [i64; COMPARE_LENGTH]
     )
 }
 
-// The numbers of a comparison.
-pub fn of_report(report: Report) -> [i64; COMPARE_LENGTH]
+// The numbers of both outlines of a comparison together.
+pub fn of_overall(report: Report) -> [i64; OVERALL_LENGTH]
     requires { ⌜ ReportFits report ⌝ }
-    ensures { λ r. ⌜ r ≡ ofReport report ⌝ }
+    ensures { λ r. ⌜ r ≡ ofOverall report ⌝ }
 {
     match report {
         Report::Spent(spent) => of_spent(spent),
         Report::Done(done) => of_done(done),
     }
+}
+
+// What a spent report has of a side.
+fn reported_when_spent(side: Side, p: Spent) -> WorstSoFar
+    ensures { λ r. ⌜ r ≡ reportedOf side (Report.Spent p) ⌝ }
+{
+    let sides = p.sides;
+    match side {
+        Side::A => sides.a,
+        Side::B => sides.b,
+    }
+}
+
+// What a done report has of a side.
+fn reported_when_done(side: Side, d: Done) -> WorstSoFar
+    ensures { λ r. ⌜ r ≡ reportedOf side (Report.Done d) ⌝ }
+{
+    let sides = d.sides;
+    match side {
+        Side::A => {
+            let a = sides.a;
+            WorstSoFar::Worst(a)
+        }
+        Side::B => {
+            let b = sides.b;
+            WorstSoFar::Worst(b)
+        }
+    }
+}
+
+// What a report has of a side.
+fn reported_of(side: Side, report: Report) -> WorstSoFar
+    ensures { λ r. ⌜ r ≡ reportedOf side report ⌝ }
+{
+    match report {
+        Report::Spent(p) => reported_when_spent(side, p),
+        Report::Done(d) => reported_when_done(side, d),
+    }
+}
+
+// The numbers of what a report has of a side.
+pub fn of_side(side: Side, report: Report) -> [i64; CORNER_LENGTH]
+    requires { ⌜ ReportFits report ⌝ }
+    ensures { λ r. ⌜ r ≡ ofSide side report ⌝ }
+{
+    of_worst(reported_of(side, report))
 }

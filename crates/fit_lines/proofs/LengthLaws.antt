@@ -1,5 +1,5 @@
 -- How long the lines are at the most.
---     refusal-line-fits, done-fits    a refusal and the five lines fit a text
+--     refusal-line-fits, done-fits    a refusal and the seven lines fit a text
 use Prim.Native.Nat.{ℕ, _+_, _≤_}
 use mathlib.Core.List.{List}
 use native.Mathlib.Omega.{arith}
@@ -12,7 +12,7 @@ use Rattle.hausdorff.specs.declared.CornerGap.{CornerGap}
 use Rattle.hausdorff.specs.declared.Done.{Done}
 use Rattle.answer_text.proofs.LengthLaws.{decimal-fits, corner-fits, feature-fits, fraction-fits, point-fits}
 use Rattle.answer_text.proofs.LengthLaws.{refusal-fits}
-use Rattle.fit_lines.specs.Lines.{refusalLine, gapLine, numberLine, fromLine, toLine, doneText}
+use Rattle.fit_lines.specs.Lines.{refusalLine, gapLine, numberLine, fromLine, toLine, sideLines, doneText}
 
 pub refusal-line-fits : (r : Refusal) → length (refusalLine r) ≤ room
 refusal-line-fits r = simp length-append (omega (arith, refusal-fits r))
@@ -33,6 +33,10 @@ to-fits : (w : CornerGap) → length (toLine w) ≤ 120
 unfolding toLine
 to-fits w = simp length-append (omega (arith, feature-fits (w .feature), point-fits (w .point)))
 
+side-fits : (w : CornerGap) → length (sideLines w) ≤ 148
+unfolding sideLines
+side-fits w = simp length-append (omega (arith, from-fits w, to-fits w))
+
 pub done-fits : (d : Done) → length (doneText d) ≤ room
 unfolding doneText
 done-fits d =
@@ -41,7 +45,7 @@ done-fits d =
       arith,
       gap-fits (d .answer .gap),
       line-fits (ascii "mm ") (d .clearance),
-      from-fits (d .answer),
-      to-fits (d .answer),
+      side-fits (d .sides .a),
+      side-fits (d .sides .b),
       line-fits (ascii "steps ") (d .steps),
     ))

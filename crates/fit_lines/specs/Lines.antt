@@ -36,13 +36,18 @@ fromLine w = ascii "from " ++ cornerText (w .side) (w .corner) ++ ascii "\n"
 unfoldable pub toLine : CornerGap → List ℕ
 toLine w = ascii "to " ++ featureText (w .feature) ++ ascii " at " ++ pointText (w .point) ++ ascii "\n"
 
--- rule 8.8, five lines: the gap, the clearance, side and corner, the feature with the nearest point, and N
+-- the two lines of the answer of a side
+unfoldable pub sideLines : CornerGap → List ℕ
+sideLines w = fromLine w ++ toLine w
+
+-- rule 8.8, seven lines: the gap and the clearance; side and corner, and the feature with the nearest point, of A's
+-- answer and then of B's; and N
 unfoldable pub doneText : Done → List ℕ
 doneText d =
     gapLine (d .answer .gap)
     ++ numberLine (ascii "mm ") (d .clearance)
-    ++ fromLine (d .answer)
-    ++ toLine (d .answer)
+    ++ sideLines (d .sides .a)
+    ++ sideLines (d .sides .b)
     ++ numberLine (ascii "steps ") (d .steps)
 
 -- what is reported, or nothing where it is spent: that does not come with the steps that the program allows

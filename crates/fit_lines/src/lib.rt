@@ -8,7 +8,7 @@ use text::output::Text;
 ghost use mathlib.Core.Path.{_≡_};
 ghost use Rattle.text.specs.code.Output.{appended};
 ghost use Rattle.fit_lines.specs.Lines.{gapLine, numberLine, fromLine, toLine};
-ghost use Rattle.fit_lines.specs.Lines.{doneText, reportText, comparisonText};
+ghost use Rattle.fit_lines.specs.Lines.{sideLines, doneText, reportText, comparisonText};
 
 fn gap_line(t: Text, gap: Fraction) -> Text
     ensures { λ r. ⌜ r ≡ appended t (gapLine gap) ⌝ }
@@ -41,20 +41,29 @@ fn to_line(t: Text, found: CornerGap) -> Text
     answer_text::point(t, point).bytes(b"\n")
 }
 
+// The answer of a side.
+fn side_lines(t: Text, found: CornerGap) -> Text
+    ensures { λ r. ⌜ r ≡ appended t (sideLines found) ⌝ }
+{
+    to_line(from_line(t, found), found)
+}
+
 fn done(t: Text, done: Done) -> Text
     ensures { λ r. ⌜ r ≡ appended t (doneText done) ⌝ }
 {
-    let answer = done.answer;
-    let gap = answer.gap;
+    let gap = done.answer.gap;
+    let sides = done.sides;
+    let a = sides.a;
+    let b = sides.b;
     let t = number_line(gap_line(t, gap), b"mm ", done.clearance);
     number_line(
-        to_line(from_line(t, answer), answer),
+        side_lines(side_lines(t, a), b),
         b"steps ",
         done.steps as u64,
     )
 }
 
-// The five lines of a comparison that is done. For one that is spent there are none.
+// The seven lines of a comparison that is done. For one that is spent there are none.
 fn report(t: Text, report: Report) -> Text
     ensures { λ r. ⌜ r ≡ appended t (reportText report) ⌝ }
 {

@@ -1,7 +1,7 @@
 -- Worked examples: what the program writes for an input, by computing what the definitions give.
 --     Case, Holds, All    an input and what is written for it; the definitions say so; of each of some cases
---     examples            the example of rule 8.8; then a refusal with two places, one, and none; a count above
---                         256; what cannot be read
+--     examples            the example of rule 8.8 and another; then a refusal with two places, one, and none; a count
+--                         above 256; what cannot be read
 use Prim.Native.String.{String}
 use mathlib.Core.List.{List, [], _∷_}
 use mathlib.Core.Path.{_≡_, refl}
@@ -28,7 +28,7 @@ use Rattle.text.specs.Number.{allDigits, valueFrom, natural, number}
 use Rattle.text.specs.Words.{wordsFrom}
 use Rattle.fit_text.specs.Input.{numbers, outline}
 use Rattle.answer_text.specs.Parts.{cornerText, fractionText, coordinateText, pointText, refusalText}
-use Rattle.fit_lines.specs.Lines.{gapLine, numberLine, fromLine, toLine, doneText}
+use Rattle.fit_lines.specs.Lines.{gapLine, numberLine, fromLine, toLine, sideLines, doneText}
 use Rattle.fit_text.specs.Response.{response}
 
 record Case : Type 0 where
@@ -47,7 +47,8 @@ example input output = record { input = input; output = output }
 
 abbrev cases : List Case
 cases =
-    example "4 0 0 4 0 4 4 0 4 3 0 0 4 0 0 4" "gap 256/32\nmm 3\nfrom A 2\nto edge 1 at 64/32 64/32\nsteps 7\n"
+    example "4 0 0 4 0 4 4 0 4 3 0 0 4 0 0 4" "gap 256/32\nmm 3\nfrom A 2\nto edge 1 at 64/32 64/32\nfrom B 0\nto within at 0/1 0/1\nsteps 7\n"
+    ∷ example "4 0 0 4 0 4 4 0 4 4 10 0 14 0 14 4 10 4" "gap 100/1\nmm 10\nfrom A 0\nto corner 0 at 10/1 0/1\nfrom B 1\nto corner 1 at 4/1 0/1\nsteps 8\n"
     ∷ example " 3 0 0 0 4 4 0\n3 0 0 4 0 0 4 " "refused A 6 0 2\n"
     ∷ example "3 0 0 4 0 0 4 3 0 0 4 0 0 16001" "refused B 4 2\n"
     ∷ example "2 0 0 4 0 0" "refused A 2\n"
@@ -65,5 +66,5 @@ unfolding inRange _⇀_ cross dot same fold corners next checkRange checkRepeate
     isFirstHalf isBefore sameDirection _⇢_ rootBy precedes insert sort angularOrder liesAt isCounted
     firstStart passAll measured worstAfter report digits allDigits valueFrom natural number wordsFrom numbers outline
     cornerText
-    fractionText coordinateText pointText refusalText gapLine numberLine fromLine toLine doneText
-examples = (refl, (refl, (refl, (refl, (refl, (refl, (refl, (refl, (refl, (refl, (refl, tt)))))))))))
+    fractionText coordinateText pointText refusalText gapLine numberLine fromLine toLine sideLines doneText
+examples = (refl, (refl, (refl, (refl, (refl, (refl, (refl, (refl, (refl, (refl, (refl, (refl, tt))))))))))))

@@ -36,5 +36,5 @@ pub data LaidDown (t : List ℕ) : Type 0 where
   unreadable : t ≡ ascii "unreadable\n" → LaidDown t
   -- a refusal in one line
   refused : (r : Refusal) → t ≡ refusalLine r → LaidDown t
-  -- the five lines of a comparison that is done
+  -- the seven lines of a comparison that is done
   done : (d : Done) → t ≡ doneText d → LaidDown t

@@ -19,7 +19,7 @@ fn unreadable() -> Text
     Text::empty().bytes(b"unreadable\n")
 }
 
-// What the program writes for an input: `unreadable`, a refusal in one line, or the five lines of a comparison.
+// What the program writes for an input: `unreadable`, a refusal in one line, or the seven lines of a comparison.
 // Any bytes may be handed to it. What it writes fits a text, so that nothing is left out.
 pub fn respond(input: &[u8]) -> Text
     ensures bytes { λ r. ⌜ r ≡ textOf (response (now (input .entry))) ⌝ }

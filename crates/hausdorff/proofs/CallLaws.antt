@@ -10,6 +10,7 @@
 --     reported-means              where it is a report both lists are accepted, and the law holds of it
 --     comparison-swap             a done report of B with A has the same gap, as a value
 --     comparison-start            and so has one of lists that start at other corners
+--     sides-swap, sides-start     and so have their sides: with the outlines exchanged A's is B's
 -- For the code, by what reading the lists gives:
 --     call-asks                       a list is taken: what the steps ask of the outline
 --     call-unread-a, call-unread-b    A's list is refused; A's is taken and B's refused
@@ -45,7 +46,6 @@ use Rattle.outline.proofs.ConditionLaws.{AllDecide, first-refused, first-taken}
 use Rattle.outline.proofs.ConditionLaws.{decide-append, none-append, fault-append}
 use Rattle.outline.proofs.ReadingLaws.{reading-outline, reading-cornersOf}
 use Rattle.nearest.proofs.Rotation.{startingAt, SamePiece, startingAt-piece}
-use Rattle.hausdorff.specs.Hausdorff.{Hausdorff}
 use Rattle.hausdorff.specs.declared.Done.{Done}
 use Rattle.hausdorff.specs.declared.Report.{Report}
 use Rattle.hausdorff.specs.declared.Report.the-variants as Report
@@ -54,11 +54,12 @@ use Rattle.hausdorff.specs.declared.Comparison.the-variants.{Refused, Re
 use Rattle.hausdorff.specs.Pair.{both}
 use Rattle.hausdorff.specs.code.Pair.{AcceptedPair, Polygons}
 use Rattle.hausdorff.specs.code.Report.{report}
-use Rattle.hausdorff.specs.Law.{Law}
+use Rattle.hausdorff.specs.Law.{OfDone, Law}
 use Rattle.hausdorff.specs.Call.{pairConditions, IsComparison}
 use Rattle.hausdorff.specs.code.Call.{pairChecks, checkPair, comparisonFor, comparison}
 use Rattle.hausdorff.specs.Call.{refused, reported}
-use Rattle.hausdorff.proofs.HausdorffLaws.{hausdorff-unique, hausdorff-swap, hausdorff-pieces}
+use Rattle.hausdorff.proofs.HausdorffLaws.{directed-unique, directed-pieces, hausdorff-unique, hausdorff-swap}
+use Rattle.hausdorff.proofs.HausdorffLaws.{hausdorff-pieces}
 use Rattle.hausdorff.proofs.Law.{law, law-done, law-unique}
 
 pub both-accepted : (ps qs : List Corner) → Accepted ps → Accepted qs → AcceptedPair (both ps qs)
@@ -174,24 +175,44 @@ module _ (s t : List ℤ) (allowance : ℕ) where
           let at-a = cornersOf-read (Of A) s is-a taken-a in let at-b = cornersOf-read (Of B) t is-b taken-b in
           rw (is, at-a, at-b) (by-verdict (by-b ∙ is-taken (Of B) t is-b taken-b))
 
--- the gap of a done report is the Hausdorff distance
-done-distance : (s t : List ℤ) (k : ℕ) (d : Done) → IsComparison s t k (Reported (Report.Done d))
-    → Hausdorff (both (corners s) (corners t)) (d .answer .gap)
-done-distance s t k d is =
-    let (_, (_, lawful)) = reported-means s t k (Report.Done d) is in law-done lawful .1 .distance
+-- what the law says of a done report
+done-means : (s t : List ℤ) (k : ℕ) (d : Done) → IsComparison s t k (Reported (Report.Done d))
+    → OfDone (both (corners s) (corners t)) d
+done-means s t k d is = let (_, (_, lawful)) = reported-means s t k (Report.Done d) is in law-done lawful .1
 
-pub comparison-swap : (s t : List ℤ) (k j : ℕ) (d e : Done) → IsComparison s t k (Reported (Report.Done d))
-    → IsComparison t s j (Reported (Report.Done e)) → SameValue (d .answer .gap) (e .answer .gap)
-comparison-swap s t k j d e one other =
-    hausdorff-unique (done-distance s t k d one) (hausdorff-swap (corners t) (corners s) (done-distance t s j e other))
+module _ (s t : List ℤ) (k j : ℕ) (d e : Done) where
+  -- the gap of a done report is the Hausdorff distance
+  pub comparison-swap : IsComparison s t k (Reported (Report.Done d)) → IsComparison t s j (Reported (Report.Done e))
+      → SameValue (d .answer .gap) (e .answer .gap)
+  comparison-swap one other = hausdorff-unique (done-means s t k d one .distance)
+      (hausdorff-swap (corners t) (corners s) (done-means t s j e other .distance))
 
-pub comparison-start : (s t s' t' : List ℤ) (a b k j : ℕ) (d e : Done)
-    → corners s' ≡ startingAt a (corners s) → corners t' ≡ startingAt b (corners t)
-    → IsComparison s t k (Reported (Report.Done d)) → IsComparison s' t' j (Reported (Report.Done e))
-    → SameValue (d .answer .gap) (e .answer .gap)
-comparison-start s t s' t' a b k j d e from-s from-t one other =
-    hausdorff-unique (hausdorff-pieces same (done-distance s t k d one)) (done-distance s' t' j e other)
-  where
-    same : (r : Side) → SamePiece (both (corners s) (corners t) r) (both (corners s') (corners t') r)
-    same A z = rw from-s (startingAt-piece a (corners s) z)
-    same B z = rw from-t (startingAt-piece b (corners t) z)
+  -- and those of its sides are the directed ones
+  pub sides-swap : IsComparison s t k (Reported (Report.Done d)) → IsComparison t s j (Reported (Report.Done e))
+      → SameValue (d .sides .a .gap) (e .sides .b .gap) × SameValue (d .sides .b .gap) (e .sides .a .gap)
+  sides-swap one other =
+      let here = done-means s t k d one in let there = done-means t s j e other in (
+        directed-unique (here .side-a .distance) (there .side-b .distance),
+        directed-unique (here .side-b .distance) (there .side-a .distance),
+      )
+
+module _ (s t s' t' : List ℤ) (a b k j : ℕ) (d e : Done) (from-s : corners s' ≡ startingAt a (corners s))
+    (from-t : corners t' ≡ startingAt b (corners t)) where
+  -- the pieces are the same
+  start-pieces : (r : Side) → SamePiece (both (corners s) (corners t) r) (both (corners s') (corners t') r)
+  start-pieces A z = rw from-s (startingAt-piece a (corners s) z)
+  start-pieces B z = rw from-t (startingAt-piece b (corners t) z)
+
+  pub comparison-start : IsComparison s t k (Reported (Report.Done d)) → IsComparison s' t' j (Reported (Report.Done e))
+      → SameValue (d .answer .gap) (e .answer .gap)
+  comparison-start one other =
+      hausdorff-unique
+      (hausdorff-pieces start-pieces (done-means s t k d one .distance)) (done-means s' t' j e other .distance)
+
+  pub sides-start : IsComparison s t k (Reported (Report.Done d)) → IsComparison s' t' j (Reported (Report.Done e))
+      → SameValue (d .sides .a .gap) (e .sides .a .gap) × SameValue (d .sides .b .gap) (e .sides .b .gap)
+  sides-start one other =
+      let here = done-means s t k d one in let there = done-means s' t' j e other in
+      let of-a = directed-pieces (start-pieces A) (start-pieces B) (here .side-a .distance) in
+      let of-b = directed-pieces (start-pieces B) (start-pieces A) (here .side-b .distance) in
+      (directed-unique of-a (there .side-a .distance), directed-unique of-b (there .side-b .distance))

@@ -48,7 +48,7 @@ use Rattle.hausdorff.specs.Pair.{Pair, other}
 use Rattle.hausdorff.specs.code.Pair.{AcceptedPair}
 use Rattle.hausdorff.specs.Answer.{IsGap}
 use Rattle.hausdorff.specs.Support.{supportAfter}
-use Rattle.hausdorff.specs.Counted.{IsWorst}
+use Rattle.hausdorff.specs.Counted.{LeadsOrNone}
 use Rattle.hausdorff.specs.Law.{OfDone, OfSpent, Law}
 use Rattle.hausdorff.specs.Call.{IsComparison}
 use Rattle.hausdorff.proofs.Law.{law-done, law-spent}
@@ -95,9 +95,9 @@ module _ {pair : Pair} (ok : AcceptedPair pair) where
     nearest = answers-fit (ok (other (w .side))) (ok (w .side) .in-range (w .corner) (is .known)) (is .answers);
   }
 
-  worst-fits : (k : ℕ) (x : WorstSoFar) → IsWorst pair k x → WorstFits x
-  worst-fits k None is = tt
-  worst-fits k (Worst w) leads = corner-fits (leads .is-gap)
+  worst-fits : (T : CornerGap → Type 0) (x : WorstSoFar) → LeadsOrNone pair T x → WorstFits x
+  worst-fits T None is = tt
+  worst-fits T (Worst w) leads = corner-fits (leads .is-gap)
 
   -- no gap is above 2 · 32,000², and the square of 45,255 is
   pub clearance-at-most : {d : Done} → OfDone pair d → d .clearance ≤ 45255
@@ -110,6 +110,8 @@ module _ {pair : Pair} (ok : AcceptedPair pair) where
   of-done-fits of = record {
     answer = corner-fits (of .as-defined .is-gap);
     clearance = lt-of-le-of-lt (clearance-at-most of) (lit< tt);
+    side-a = corner-fits (of .side-a .as-defined .is-gap);
+    side-b = corner-fits (of .side-b .as-defined .is-gap);
   }
 
   support-fits : (k : ℕ) (s : Side) → FitsI64 (supportAfter pair k s)
@@ -119,7 +121,9 @@ module _ {pair : Pair} (ok : AcceptedPair pair) where
   of-spent-fits {n} {p} of = record {
     support-a = rw (of .support-a) (support-fits n A);
     support-b = rw (of .support-b) (support-fits n B);
-    worst = worst-fits n (p .worst) (of .worst);
+    worst = worst-fits _ (p .worst) (of .worst);
+    side-a = worst-fits _ (p .sides .a) (of .side-a .worst);
+    side-b = worst-fits _ (p .sides .b) (of .side-b .worst);
   }
 
 pub report-fits : (s t : List ℤ) (allowance : ℕ) (q : Report) → IsComparison s t allowance (Reported q) → ReportFits q

@@ -1,14 +1,16 @@
 -- The Hausdorff distance as a value.
 --     at-least-most        what a distance reaches is not above what bounds it
---     directed-unique      the distance from one piece to another is one value
+--     directed-unique      the directed distance from one piece to another is one value
 --     BoundedAndReached    at most g from each to the other, and at least g from one of them
 --     hausdorff-iff        that is: the greater of the two distances is g
 --     hausdorff-unique     it is one value
 --     hausdorff-swap       and the same with the outlines exchanged
 --     hausdorff-pieces     and for other lists that give the same pieces
---     answer-hausdorff     the answer's gap is it
+--     directed-pieces      so is the directed one
+--     answer-directed      the gap of a side's answer is the directed one from that side's piece to the other
+--     answer-hausdorff     and the answer's gap is the Hausdorff distance
 use Prim.Native.Nat.{ℕ, _<_}
-use mathlib.Core.Path.{_≡_, sym, ap}
+use mathlib.Core.Path.{_≡_, refl, sym, ap}
 use mathlib.Core.Logic.{_↔_}
 use mathlib.Core.List.{List}
 use native.Mathlib.Nat.{le-antisymm, le-of-eq}
@@ -26,7 +28,7 @@ use Rattle.nearest.proofs.Rotation.{SamePiece}
 use Rattle.nearest.proofs.DistanceLaws.{squaredDistance-is}
 use Rattle.hausdorff.specs.declared.CornerGap.{CornerGap}
 use Rattle.hausdorff.specs.Pair.{Pair, both, other}
-use Rattle.hausdorff.specs.Answer.{IsAnswer}
+use Rattle.hausdorff.specs.Answer.{IsAnswer, IsSideAnswer}
 use Rattle.hausdorff.specs.Hausdorff.{DistanceAtMost, DistanceAtLeast, Directed, Hausdorff}
 use Rattle.hausdorff.specs.code.Pair.{Polygons}
 use Rattle.hausdorff.specs.code.CornerGap.{cornerGap}
@@ -99,7 +101,7 @@ hausdorff-swap ps qs {g} is = record {
     one-of A same = (B, same)
     one-of B same = (A, same)
 
-directed-pieces : {cs ds cs' ds' : List Corner} {g : Fraction} → SamePiece cs cs' → SamePiece ds ds'
+pub directed-pieces : {cs ds cs' ds' : List Corner} {g : Fraction} → SamePiece cs cs' → SamePiece ds ds'
     → Directed cs ds g → Directed cs' ds' g
 directed-pieces here there is = record {
   lower-positive = is .lower-positive;
@@ -148,6 +150,15 @@ module _ (pair : Pair) (polygons : Polygons pair) where
       not-less = λ s. at-least-most (reached s) g (reaches s .at-least) (is .at-most s);
     },
   )
+
+  -- it is the greatest gap of its side
+  pub answer-directed : (s : Side) (w : CornerGap) → IsSideAnswer pair s w → Directed (pair s) (pair (other s)) (w .gap)
+  answer-directed s w is =
+      let (known, equal) = gap-iff pair polygons w .0 (is .is-gap) in
+      let same : w .gap ≡ cornerGap pair s (w .corner) .gap =
+      rw (is .among) at (ap (λ (z : CornerGap). z .gap) equal) in
+      rw same (greatest-directed pair polygons s (w .corner) (rw (is .among) at known)
+      (λ j below. rw same at (is .greatest (cornerGap pair s j) (gap-is pair polygons s j below) refl)))
 
   -- it is the greatest gap of both, so of its own side too
   pub answer-hausdorff : (w : CornerGap) → IsAnswer pair w → Hausdorff pair (w .gap)

@@ -2,6 +2,7 @@
 --     law                     what comparing returns obeys it
 --     law-spent, law-done     what it says of a spent report, and of a done one
 --     law-unique              it leaves one report
+--     zero-side-shown         of a side whose gaps are all zero a done report has its corner 0, within
 use Prim.Native.Nat.{ℕ, _<_, _≤_}
 use mathlib.Core.Path.{_≡_, refl, sym, ap, subst, _∙_}
 use mathlib.Core.Logic.{_⊎_, inl, inr, ⊎-elim}
@@ -10,7 +11,11 @@ use native.Mathlib.Omega.{arith}
 use borrow.Author.Tests.{lt-ltb, le-ltb, ltb-true, ltb-false}
 use lib.Dec.{ltb}
 use Rattle.integers.proofs.RootLaws.{ceiling-root, ceiling-unique}
+use Rattle.outline.specs.Corners.{corner}
 use Rattle.outline.proofs.EdgeLaws.{accepted-polygon}
+use Rattle.outline.specs.declared.Side.{Side}
+use Rattle.outline.specs.declared.Side.the-variants.{A, B}
+use Rattle.nearest.specs.Feature.{withinValues}
 use Rattle.hausdorff.specs.declared.Spent.{Spent}
 use Rattle.hausdorff.specs.declared.Done.{Done}
 use Rattle.hausdorff.specs.declared.CornerGap.{CornerGap}
@@ -19,16 +24,19 @@ use Rattle.hausdorff.specs.declared.Report.the-variants as Report
 use Rattle.hausdorff.specs.declared.WorstSoFar.{WorstSoFar}
 use Rattle.hausdorff.specs.declared.WorstSoFar.the-variants.{Worst}
 use Rattle.hausdorff.specs.Pair.{Pair, stepCount}
-use Rattle.hausdorff.specs.Answer.{IsGap, IsAnswer, TrueFigure}
-use Rattle.hausdorff.specs.Counted.{IsWorst}
-use Rattle.hausdorff.specs.Exhaustive.{exhaustive}
-use Rattle.hausdorff.specs.Law.{IsClearance, OfDone, OfSpent, Law}
+use Rattle.hausdorff.specs.CornerGap.{withCorner}
+use Rattle.hausdorff.specs.Answer.{IsGap, Leads, IsAnswer, TrueFigure}
+use Rattle.hausdorff.specs.Counted.{LeadsOrNone}
+use Rattle.hausdorff.specs.Exhaustive.{exhaustiveOf, exhaustive}
+use Rattle.hausdorff.specs.Law.{IsClearance, OfSpentSide, OfSpent, OfDoneSide, OfDone, Law}
 use Rattle.hausdorff.specs.code.Pair.{AcceptedPair, Polygons}
-use Rattle.hausdorff.specs.code.Sweep.{worstSoFar}
-use Rattle.hausdorff.specs.code.Report.{answer, spent, done, report}
-use Rattle.hausdorff.proofs.OverallWorst.{worst-is, worst-unique}
-use Rattle.hausdorff.proofs.AnswerLaws.{answer-unique, sweep-answers, search-answers}
-use Rattle.hausdorff.proofs.HausdorffLaws.{answer-hausdorff}
+use Rattle.hausdorff.specs.code.Sweep.{worstAfter, worstSoFar}
+use Rattle.hausdorff.specs.code.Report.{sideAnswer, answer, spent, done, report}
+use Rattle.hausdorff.proofs.Leads.{leads-unique}
+use Rattle.hausdorff.proofs.OverallWorst.{side-worst-is, worst-is, leads-or-none-unique}
+use Rattle.hausdorff.proofs.AnswerLaws.{side-answers, sweep-answers, answer-from-steps}
+use Rattle.hausdorff.proofs.AnswerLaws.{zero-side-answer, side-search-answers, search-answers}
+use Rattle.hausdorff.proofs.HausdorffLaws.{answer-directed, answer-hausdorff}
 
 module _ (pair : Pair) (accepted : AcceptedPair pair) where
   polygons : Polygons pair
@@ -39,24 +47,52 @@ module _ (pair : Pair) (accepted : AcceptedPair pair) where
   found = sweep-answers pair polygons
 
   found-searched : answer pair ≡ exhaustive pair
-  found-searched = answer-unique pair polygons (answer pair) (exhaustive pair) found (search-answers pair polygons)
+  found-searched = leads-unique pair polygons (answer pair) (exhaustive pair) found (search-answers pair polygons)
 
   -- its gap is the greatest
   figure-of : (w : CornerGap) → IsAnswer pair w → TrueFigure pair (w .gap)
   figure-of w is = record { reached = (w, is .is-gap, refl); greatest = λ z gap. is .greatest z gap tt }
 
+  -- each side's worst so far after all steps, or its corner 0, is its answer
+  of-done-side : (s : Side) → OfDoneSide pair s (sideAnswer pair s)
+  of-done-side s = let is = side-answers pair polygons s in record {
+    from-steps = (worstAfter pair (stepCount pair) s, side-worst-is pair polygons (stepCount pair) s, refl);
+    as-defined = is;
+    as-searched = leads-unique pair polygons _ (exhaustiveOf pair s) is (side-search-answers pair polygons s);
+    distance = answer-directed pair polygons s _ is;
+  }
+
   of-done : OfDone pair (done pair)
   of-done = let distance = answer-hausdorff pair polygons (answer pair) found in record {
     steps = refl;
-    from-steps = (worstSoFar pair (stepCount pair), worst-is pair polygons (stepCount pair), refl);
+    from-steps = (
+      worstSoFar pair (stepCount pair),
+      worst-is pair polygons (stepCount pair),
+      answer-from-steps pair polygons,
+    );
     as-defined = found;
     as-searched = found-searched;
     figure = figure-of (answer pair) found;
     distance = distance;
     clearance = ceiling-root (answer pair .gap) (distance .lower-positive);
+    side-a = of-done-side A;
+    side-b = of-done-side B;
+    worse-of-both = refl;
   }
 
-  -- a gap that counts is a corner's
+  -- a worst so far that is there leads among its gaps
+  worst-leads : {T : CornerGap → Type 0} {x : WorstSoFar} {w : CornerGap} → x ≡ Worst w
+      → LeadsOrNone pair T x → Leads pair T w
+  worst-leads {T} is leads = subst (LeadsOrNone pair T) is leads
+
+  of-spent-side : (allowance : ℕ) (s : Side) → OfSpentSide pair allowance s (worstAfter pair allowance s)
+  of-spent-side allowance s = let worst = side-worst-is pair polygons allowance s in record {
+    worst = worst;
+    figure = side-search-answers pair polygons s;
+    worst-not-above = λ w z equal answer.
+        let leads = worst-leads equal worst in answer .greatest w (leads .is-gap) (leads .among .0);
+  }
+
   of-spent : (allowance : ℕ) → OfSpent pair allowance (spent pair allowance)
   of-spent allowance = let worst = worst-is pair polygons allowance in record {
     steps = refl;
@@ -64,11 +100,11 @@ module _ (pair : Pair) (accepted : AcceptedPair pair) where
     support-b = refl;
     worst = worst;
     figure = figure-of (exhaustive pair) (search-answers pair polygons);
-    worst-not-above = λ w g equal figure. figure .greatest w (is-gap equal worst);
+    worst-not-above = λ w g equal figure. figure .greatest w (worst-leads equal worst .is-gap);
+    side-a = of-spent-side allowance A;
+    side-b = of-spent-side allowance B;
+    worse-of-both = refl;
   }
-    where
-      is-gap : {x : WorstSoFar} {w : CornerGap} → x ≡ Worst w → IsWorst pair allowance x → IsGap pair w
-      is-gap is worst = subst (IsWorst pair allowance) is worst .is-gap
 
   pub law : (allowance : ℕ) → Law pair allowance (report pair allowance)
   unfolding report
@@ -85,6 +121,10 @@ done-unique {d = d} {e} one other =
       answer = answers i;
       clearance = ceiling-unique (one .clearance)
           (subst (λ x. IsClearance x (e .clearance)) (sym gaps) (other .clearance)) i;
+      sides = record {
+        a = (one .side-a .as-searched ∙ sym (other .side-a .as-searched)) i;
+        b = (one .side-b .as-searched ∙ sym (other .side-b .as-searched)) i;
+      };
     }
 
 spent≢done : (p : Spent) (d : Done) → ¬ (Report.Spent p ≡ Report.Done d)
@@ -117,14 +157,20 @@ module _ {pair : Pair} {allowance : ℕ} where
 
   module _ (polygons : Polygons pair) where
     spent-unique : {p q : Spent} → OfSpent pair allowance p → OfSpent pair allowance q → p ≡ q
-    spent-unique {p} {q} one other = λ i. record {
-      steps = (one .steps ∙ sym (other .steps)) i;
-      support = record {
-        a = (one .support-a ∙ sym (other .support-a)) i;
-        b = (one .support-b ∙ sym (other .support-b)) i;
-      };
-      worst = worst-unique pair polygons allowance (p .worst) (q .worst) (one .worst) (other .worst) i;
-    }
+    spent-unique {p} {q} one other =
+        let worst-a = leads-or-none-unique pair polygons _ (p .sides .a) (q .sides .a) in
+        let worst-b = leads-or-none-unique pair polygons _ (p .sides .b) (q .sides .b) in λ i. record {
+          steps = (one .steps ∙ sym (other .steps)) i;
+          support = record {
+            a = (one .support-a ∙ sym (other .support-a)) i;
+            b = (one .support-b ∙ sym (other .support-b)) i;
+          };
+          worst = leads-or-none-unique pair polygons _ (p .worst) (q .worst) (one .worst) (other .worst) i;
+          sides = record {
+            a = worst-a (one .side-a .worst) (other .side-a .worst) i;
+            b = worst-b (one .side-b .worst) (other .side-b .worst) i;
+          };
+        }
 
     -- what holds of it leaves one
     pub law-unique : {r q : Report} → Law pair allowance r → Law pair allowance q → r ≡ q
@@ -134,3 +180,10 @@ module _ {pair : Pair} {allowance : ℕ} where
         (λ (enough, (d, is, of)). (let (d', is', of') = other .else-done enough in
         is ∙ ap Report.Done (done-unique of of') ∙ sym is'))
         (law-cases one)
+
+-- rule 4.8, of a report: the side's answer is the only one
+pub zero-side-shown : (pair : Pair) → Polygons pair → (s : Side) {w : CornerGap} → OfDoneSide pair s w
+    → ((z : CornerGap) → IsGap pair z → z .side ≡ s → z .gap .upper ≡ 0)
+    → w ≡ withCorner s 0 (withinValues (corner (pair s) 0))
+zero-side-shown pair polygons s {w} of none =
+    leads-unique pair polygons w _ (of .as-defined) (zero-side-answer pair polygons s none)

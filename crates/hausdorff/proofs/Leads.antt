@@ -42,13 +42,13 @@ pub not-later-on-side : (s : Side) (i j : ℕ) → i ≤ j → NotLater s i s j
 not-later-on-side A i j p = p
 not-later-on-side B i j p = p
 
-pub leads-map : {pair : Pair} {T U : CornerGap → Type 0} {w : CornerGap} → ((z : CornerGap) → T z ↔ U z)
-    → Leads pair T w → Leads pair U w
+pub leads-map : {pair : Pair} {T U : CornerGap → Type 0} {w : CornerGap}
+    → ((z : CornerGap) → IsGap pair z → T z ↔ U z) → Leads pair T w → Leads pair U w
 leads-map {w = w} same leads = record {
   is-gap = leads .is-gap;
-  among = same w .0 (leads .among);
-  greatest = λ z gap u. leads .greatest z gap (same z .1 u);
-  first-of-equals = λ z gap u. leads .first-of-equals z gap (same z .1 u);
+  among = same w (leads .is-gap) .0 (leads .among);
+  greatest = λ z gap u. leads .greatest z gap (same z gap .1 u);
+  first-of-equals = λ z gap u. leads .first-of-equals z gap (same z gap .1 u);
 }
 
 -- a corner of a side, whose number has a property
@@ -128,4 +128,4 @@ module _ (pair : Pair) (polygons : Polygons pair) where
   -- A's corners come before B's
   pub leads-both : (Q : Side → ℕ → Type 0) (w z : CornerGap) → Leads pair (OnSide A (Q A)) w → Leads pair (OnSide B (Q B)) z
       → Leads pair (λ x. Q (x .side) (x .corner)) (worse w z)
-  leads-both Q w z p q = leads-map (by-side Q) (leads-worse w z p q (λ x on. rw (p .among .0, on .0) tt))
+  leads-both Q w z p q = leads-map (λ z gap. by-side Q z) (leads-worse w z p q (λ x on. rw (p .among .0, on .0) tt))

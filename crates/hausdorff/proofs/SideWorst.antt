@@ -2,10 +2,10 @@
 --     SideWorst        none if every corner of the side is within, else the preferred corner of the side, which is
 --                      outside
 --     side-worst       that is what the sweep finds
---     side-directed    its gap is the squared distance from that side's piece to the other
---     corner-reaches   Lemma 2 of report 83-442, for every position: a corner reaches that distance
+--     corner-reaches   Lemma 2 of report 83-442, for every position: a corner reaches the squared directed Hausdorff
+--                      distance from that side's piece to the other
 use Prim.Native.Nat.{ℕ, _<_}
-use mathlib.Core.Path.{_≡_, refl, subst}
+use mathlib.Core.Path.{_≡_, refl}
 use mathlib.Core.Bool.{Bool, true, false}
 use lib.ListN.{length}
 use Rattle.integers.specs.Fraction.{NotGreater}
@@ -16,7 +16,6 @@ use Rattle.nearest.specs.Piece.{InPiece, Outside, isOutside}
 use Rattle.nearest.specs.code.Local.{feature}
 use Rattle.nearest.proofs.PieceLaws.{outside-test, inside-test}
 use Rattle.outline.specs.declared.Side.{Side}
-use Rattle.hausdorff.specs.declared.CornerGap.{CornerGap}
 use Rattle.hausdorff.specs.declared.WorstSoFar.{WorstSoFar}
 use Rattle.hausdorff.specs.declared.WorstSoFar.the-variants.{None, Worst}
 use Rattle.hausdorff.specs.Pair.{Pair, other, stepCount}
@@ -84,14 +83,6 @@ module _ (pair : Pair) (polygons : Polygons pair) (s : Side) where
       go false fails (Worst w) most =
           let is-outside = counted-outside pair polygons s (w .corner) (stepCount pair) (most .holds) in
           absurd (is-outside .outside (all-within fails (w .corner) (is-outside .known)))
-
-  -- for its gap is the greatest of the side
-  pub side-directed : (w : CornerGap) → worstAfter pair (stepCount pair) s ≡ Worst w
-      → Directed (pair s) (pair (other s)) (w .gap)
-  side-directed w equal =
-      let (best, outside) : SideWorst pair s (Worst w) = subst (SideWorst pair s) equal side-worst in
-      rw (best .equal) (greatest-directed pair polygons s (w .corner) (best .holds)
-      (λ j below. rw (best .equal) at (best .preferred j below .not-less)))
 
   pub corner-reaches : (i : ℕ) × (i < length (pair s)) × Directed (pair s) (pair (other s)) (cornerGap pair s i .gap)
   corner-reaches =

@@ -1,6 +1,7 @@
 -- The answer, from the nearest relation alone. It cites neither the steps nor the exhaustive search.
--- `proofs/AnswerLaws.antt` shows that there is one answer, and that it is A's corner 0, within, if every gap is
--- zero (rule 4.3).
+-- `proofs/AnswerLaws.antt` shows that there is one, and one of each side, and `leads-unique` that there is only one; and
+-- that it is A's corner 0, within, if every gap is zero (rule 4.3), and of a side the side's corner 0, within, if every
+-- gap of the side is zero (rule 4.8).
 use Prim.Native.Nat.{ℕ, _<_, _≤_}
 use mathlib.Core.Path.{_≡_}
 use lib.ListN.{length}
@@ -37,6 +38,10 @@ pub record Leads (pair : Pair) (Among : CornerGap → Type 0) (w : CornerGap) : 
 -- rule 4.2, the answer: it leads among all corners of both
 abbrev pub IsAnswer : Pair → CornerGap → Type 0
 IsAnswer pair w = Leads pair (λ z. Unit {0}) w
+
+-- rule 4.8, the answer of a side: it leads among the corners of that side
+abbrev pub IsSideAnswer : Pair → Side → CornerGap → Type 0
+IsSideAnswer pair s w = Leads pair (λ z. z .side ≡ s) w
 
 -- rule 4.4: the greatest gap over all corners of both
 pub record TrueFigure (pair : Pair) (g : Fraction) : Type 0 where

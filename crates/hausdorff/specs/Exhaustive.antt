@@ -1,4 +1,4 @@
--- Rule 4.7: the exhaustive search. It is fed the corners of A and B, and nothing from the sweep.
+-- Rule 4.7: the exhaustive search. It takes the corners of A and B, and nothing from the sweep.
 use Prim.Native.Nat.{ℕ}
 use lib.ListN.{length}
 use Rattle.lists.specs.Fold.{fold}
@@ -14,10 +14,11 @@ use Rattle.hausdorff.specs.CornerGap.{withCorner, worse}
 abbrev pub searched : Pair → Side → ℕ → CornerGap
 searched pair s i = withCorner s i (search (pair (other s)) (corner (pair s) i))
 
--- the worst after the corners of a side below n: a later corner takes its place only if its gap is greater as a value
-abbrev pub tryCorners : Pair → Side → CornerGap → ℕ → CornerGap
-tryCorners pair s worst n = fold worse worst (searched pair s) n
+-- the worst of a side: its corner 0 at first, and then its corners by number, each of which takes the place only if its
+-- gap is greater as a value
+abbrev pub exhaustiveOf : Pair → Side → CornerGap
+exhaustiveOf pair s = fold worse (searched pair s 0) (searched pair s) (length (pair s))
 
--- A's corners by number, then B's; the worst is A's corner 0 at first
+-- the worse of A's and B's; A's where the gaps are equal
 abbrev pub exhaustive : Pair → CornerGap
-exhaustive pair = tryCorners pair B (tryCorners pair A (searched pair A 0) (length (pair A))) (length (pair B))
+exhaustive pair = worse (exhaustiveOf pair A) (exhaustiveOf pair B)

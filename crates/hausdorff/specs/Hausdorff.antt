@@ -18,14 +18,14 @@ DistanceAtMost g cs ds = (p : Point) → InPiece cs p → (q : Point) × InPiece
 abbrev pub DistanceAtLeast : Fraction → List Corner → List Corner → Type 0
 DistanceAtLeast g cs ds = (p : Point) × InPiece cs p × ((q : Point) → InPiece ds q → NotGreater g (squaredDistance p q))
 
--- g is the squared distance from the first to the second: the greatest over the points of the first of the least
--- over those of the second
+-- g is the squared directed Hausdorff distance from the first to the second: the greatest, over the points of the
+-- first, of the least squared distance to a point of the second
 pub record Directed (cs ds : List Corner) (g : Fraction) : Type 0 where
   pub lower-positive : 0 < g .lower
   pub at-most : DistanceAtMost g cs ds
   pub at-least : DistanceAtLeast g cs ds
 
--- g is, as a value, the greater of the squared distances from A to B and from B to A
+-- g is, as a value, the greater of the squared directed Hausdorff distances from A to B and from B to A
 pub record Hausdorff (pair : Pair) (g : Fraction) : Type 0 where
   pub lower-positive : 0 < g .lower
   -- the two distances, from each side to the other

@@ -21,25 +21,39 @@ pub enum WorstSoFar {
     Worst(CornerGap),
 }
 
+// The worst so far of each side, or none.
+pub struct SideWorsts {
+    pub a: WorstSoFar,
+    pub b: WorstSoFar,
+}
+
+// The answer of each side.
+pub struct SideAnswers {
+    pub a: CornerGap,
+    pub b: CornerGap,
+}
+
 // The support corners, one of each outline.
 pub struct SupportCorners {
     pub a: usize,
     pub b: usize,
 }
 
-// Rule 6.2: the allowance was below N, the number of edges of both. The steps made, the support corners and the worst
-// so far.
+// Rule 6.2: the allowance was below N, the number of edges of both. The steps made, the support corners, the worst so
+// far and that of each side.
 pub struct Spent {
     pub steps: u32,
     pub support: SupportCorners,
     pub worst: WorstSoFar,
+    pub sides: SideWorsts,
 }
 
-// Rule 6.3: all steps were made. Their number, the answer and its clearance.
+// Rule 6.3: all steps were made. Their number, the answer, its clearance and the answer of each side.
 pub struct Done {
     pub steps: u32,
     pub answer: CornerGap,
     pub clearance: u64,
+    pub sides: SideAnswers,
 }
 
 // What comparing two accepted outlines reports.

@@ -1,13 +1,15 @@
 // The lines of the program, one for each comparison:
 //     refused SIDE NUMBER [PLACE..]
-//     spent STEPS A-CORNER B-CORNER none
-//     spent STEPS A-CORNER B-CORNER SIDE CORNER FEATURE GAP X Y
-//     done STEPS SIDE CORNER FEATURE GAP X Y CLEARANCE
-// A gap and a coordinate are fractions as they are given, not reduced.
+//     spent STEPS A-CORNER B-CORNER WORST A-WORST B-WORST
+//     done STEPS ANSWER CLEARANCE A-ANSWER B-ANSWER
+// An ANSWER is SIDE CORNER FEATURE GAP X Y, and a WORST the same or `none`. A gap and a coordinate are fractions as they
+// are given, not reduced.
 use hausdorff::Comparison;
 use hausdorff::CornerGap;
 use hausdorff::Done;
 use hausdorff::Report;
+use hausdorff::SideAnswers;
+use hausdorff::SideWorsts;
 use hausdorff::Spent;
 use hausdorff::SupportCorners;
 use hausdorff::WorstSoFar;
@@ -43,21 +45,39 @@ fn print_support(support: SupportCorners) {
     print_natural(support.b as u64);
 }
 
+fn print_worsts(sides: SideWorsts) {
+    let a = sides.a;
+    let b = sides.b;
+    print_worst(a);
+    print_worst(b);
+}
+
 fn print_spent(spent: Spent) {
     let support = spent.support;
     let worst = spent.worst;
+    let sides = spent.sides;
     print::text(b"spent");
     print_natural(spent.steps as u64);
     print_support(support);
     print_worst(worst);
+    print_worsts(sides);
+}
+
+fn print_answers(sides: SideAnswers) {
+    let a = sides.a;
+    let b = sides.b;
+    print_corner_gap(a);
+    print_corner_gap(b);
 }
 
 fn print_done(done: Done) {
     let answer = done.answer;
+    let sides = done.sides;
     print::text(b"done");
     print_natural(done.steps as u64);
     print_corner_gap(answer);
     print_natural(done.clearance);
+    print_answers(sides);
 }
 
 fn print_report(report: Report) {

@@ -24,7 +24,7 @@ nearestLength = 7
 
 -- how long the result list of comparing must be (rule 9.5)
 abbrev pub compareLength : ℕ
-compareLength = 14
+compareLength = 32
 
 -- one value where the result list has the right length, another where not: that is judged before anything else
 abbrev pub ifOfLength : {X : Type 0} → List ℤ → ℕ → X → X → X

@@ -3,30 +3,50 @@
 use encoding::results;
 use encoding::results::COMPARE_LENGTH;
 use encoding::results::NEAREST_LENGTH;
+use encoding::results::SIDE_A_PLACE;
+use encoding::results::SIDE_B_PLACE;
 use encoding::status;
 use encoding::status::Status;
 use hausdorff::Comparison;
+use hausdorff::Report;
 use nearest::NearestAnswer;
+use outline::Side;
 use outline::Verdict;
 use plane::Corner;
 ghost use mathlib.Core.Path.{_≡_};
+ghost use Prim.Native.Nat.{_+_, _≤_};
 ghost use lib.ListN.{length};
-ghost use Rattle.ravinebowl.specs.Calls.{compareStatus, compareList, nearestStatus, nearestList, removalStatus};
+ghost use lib.Seq.{paste};
+ghost use Rattle.hausdorff.specs.code.Sizes.{ReportFits};
+ghost use Rattle.encoding.specs.Results.{ofReport};
+ghost use Rattle.ravinebowl.specs.Calls.{compareLength, compareStatus, compareList, nearestStatus, nearestList};
+ghost use Rattle.ravinebowl.specs.Calls.{removalStatus};
 ghost use Rattle.edit.specs.code.Removal.{listAfter};
 
-// Copies numbers to a list of the same length.
-fn write(numbers: &[i64], list: &mut [i64])
-    requires { ⌜ length (now list) ≡ length (now numbers) ⌝ }
-    ensures { λ _. ⌜ now (list .exit) ≡ now (numbers .entry) ⌝ }
+// Copies numbers to a list, from a place on.
+fn write(numbers: &[i64], list: &mut [i64], from: usize)
+    requires { ⌜ from + length (now numbers) ≤ length (now list) ⌝ }
+    ensures { λ _. ⌜ now (list .exit) ≡ paste (now (list .entry)) from (now (numbers .entry)) (length (now (numbers .entry))) ⌝ }
 {
     let mut i = 0;
     while i < numbers.len() {
-        list[i] = numbers[i];
+        list[from + i] = numbers[i];
         i += 1;
     }
 }
 
-// Compares the outlines that the lists `a` and `b` give, in at most `allowance` steps, and writes 14 numbers to
+// Writes the numbers of a comparison: first those of both outlines together, then A's and B's.
+fn write_report(report: Report, result: &mut [i64])
+    requires { ⌜ ReportFits report ⌝ }
+    requires { ⌜ length (now result) ≡ compareLength ⌝ }
+    ensures { λ _. ⌜ now (result .exit) ≡ ofReport report ⌝ }
+{
+    write(&results::of_overall(report), result, 0);
+    write(&results::of_side(Side::A, report), result, SIDE_A_PLACE);
+    write(&results::of_side(Side::B, report), result, SIDE_B_PLACE);
+}
+
+// Compares the outlines that the lists `a` and `b` give, in at most `allowance` steps, and writes 32 numbers to
 // `result`. A `result` of another length is judged first; then refusals 1 to 6 for A, then for B. Being spent is no
 // refusal.
 #[no_mangle]
@@ -45,7 +65,7 @@ pub extern "C" fn ravinebowl_compare(
     match calls::compare(a, b, allowance) {
         Comparison::Refused(refusal) => status::refused(refusal),
         Comparison::Reported(report) => {
-            write(&results::of_report(report), result);
+            write_report(report, result);
             status::answered()
         }
     }
@@ -69,7 +89,7 @@ pub extern "C" fn ravinebowl_nearest_point(
     match calls::nearest_point(Corner { x, y }, outline) {
         NearestAnswer::Refused(refusal) => status::refused(refusal),
         NearestAnswer::Found(found) => {
-            write(&results::of_nearest(found), result);
+            write(&results::of_nearest(found), result, 0);
             status::answered()
         }
     }

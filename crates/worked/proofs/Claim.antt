@@ -22,13 +22,13 @@ use Rattle.hausdorff.specs.code.Sweep.{measured, worstAfter}
 use Rattle.hausdorff.specs.code.Report.{report}
 use Rattle.hausdorff.specs.code.Call.{checkPair}
 use Rattle.worked.specs.Cases.{All, cases, S, T, star, straight, clockwise, twice, wedge, moved, turned, low}
-use Rattle.worked.specs.Cases.{high, S3, T3, upward, downward, square, squareMoved, thin, wide}
+use Rattle.worked.specs.Cases.{high, S3, T3, upward, downward, square, squareMoved, flat, tall, thin, wide}
 
 pub claim : All cases
 unfolding inRange _⇀_ cross dot same fold corners next checkRange checkRepeated checkEdge checkConvex check checkPair
     without checkRemoval feature tried least checkNearest isFirstHalf isBefore sameDirection _⇢_
     rootBy precedes insert sort angularOrder liesAt isCounted firstStart passAll measured worstAfter report
     S T star straight clockwise twice wedge moved turned low high S3 T3 upward downward
-    square squareMoved thin wide
+    square squareMoved flat tall thin wide
 claim =
-    (refl, (refl, (refl, (refl, (refl, (refl, ((refl, refl), ((refl, refl), ((refl, refl), ((refl, refl), (refl, (refl, (refl, (refl, (refl, (refl, (refl, (refl, (refl, (refl, (refl, (refl, (refl, (refl, (refl, (refl, (refl, (refl, (refl, (refl, (refl, (refl, (refl, (refl, (refl, (refl, (refl, (refl, (refl, (refl, (refl, (refl, (refl, tt)))))))))))))))))))))))))))))))))))))))))))
+    (refl, (refl, (refl, (refl, (refl, (refl, ((refl, refl), ((refl, refl), ((refl, refl), ((refl, refl), (refl, (refl, (refl, (refl, (refl, (refl, (refl, (refl, (refl, (refl, (refl, (refl, (refl, (refl, (refl, (refl, (refl, (refl, (refl, (refl, (refl, (refl, (refl, (refl, (refl, (refl, (refl, (refl, (refl, (refl, (refl, (refl, (refl, (refl, (refl, ((refl, refl, refl), ((refl, refl, refl), ((refl, refl, refl), ((refl, refl, refl), ((refl, refl, refl), tt))))))))))))))))))))))))))))))))))))))))))))))))))

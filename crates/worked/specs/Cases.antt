@@ -30,7 +30,7 @@ use Rattle.hausdorff.specs.declared.Comparison.the-variants as Comparison
 use Rattle.hausdorff.specs.declared.Report.the-variants as Report
 use Rattle.hausdorff.specs.Pair.{Pair, both}
 use Rattle.hausdorff.specs.AngularOrder.{PairEdge, angularOrder}
-use Rattle.hausdorff.specs.Exhaustive.{exhaustive}
+use Rattle.hausdorff.specs.Exhaustive.{exhaustiveOf, exhaustive}
 use Rattle.hausdorff.specs.code.Call.{comparison}
 
 -- a call, what it is handed, and what it answers
@@ -47,8 +47,8 @@ pub data Case : Type 0 where
   orders : List ℤ → List ℤ → List PairEdge → Case
   -- comparing the lists with a step allowance ends so
   compares : List ℤ → List ℤ → ℕ → Comparison → Case
-  -- the exhaustive search over both finds this
-  exhausts : List ℤ → List ℤ → CornerGap → Case
+  -- the exhaustive search finds these for A and for B, and this for both
+  exhausts : List ℤ → List ℤ → CornerGap → CornerGap → CornerGap → Case
 
 -- the outlines of two lists
 abbrev pair : List ℤ → List ℤ → Pair
@@ -62,7 +62,8 @@ Holds (nears v s ends) = nearestAnswer v s ≡ ends
 Holds (searches v s found) = search (corners s) v ≡ found
 Holds (orders s t order) = angularOrder (pair s t) ≡ order
 Holds (compares s t allowance ends) = comparison s t allowance ≡ ends
-Holds (exhausts s t found) = exhaustive (pair s t) ≡ found
+Holds (exhausts s t in-a in-b found) =
+    (exhaustiveOf (pair s t) A ≡ in-a) × (exhaustiveOf (pair s t) B ≡ in-b) × (exhaustive (pair s t) ≡ found)
 
 -- each case of a list holds
 abbrev pub All : List Case → Type 0
@@ -161,7 +162,7 @@ low = negsuc 15999 ∷ negsuc 15999 ∷ negsuc 15998 ∷ negsuc 15999 ∷ negsuc
 unfoldable pub high : List ℤ
 high = pos 16000 ∷ pos 16000 ∷ pos 15999 ∷ pos 16000 ∷ pos 16000 ∷ pos 15999 ∷ []
 
--- S with sides of 3
+-- S with edges of 3
 unfoldable pub S3 : List ℤ
 S3 = pos 0 ∷ pos 0 ∷ pos 3 ∷ pos 0 ∷ pos 3 ∷ pos 3 ∷ pos 0 ∷ pos 3 ∷ []
 
@@ -184,6 +185,14 @@ square = pos 1 ∷ negsuc 0 ∷ pos 1 ∷ pos 1 ∷ negsuc 0 ∷ pos 1 ∷ negsu
 -- that square, moved by (10,0)
 unfoldable pub squareMoved : List ℤ
 squareMoved = pos 11 ∷ negsuc 0 ∷ pos 11 ∷ pos 1 ∷ pos 9 ∷ pos 1 ∷ pos 9 ∷ negsuc 0 ∷ []
+
+-- a triangle with a greatest gap that is equal, as a value, to that of `tall`
+unfoldable pub flat : List ℤ
+flat = pos 0 ∷ pos 0 ∷ pos 6 ∷ pos 3 ∷ pos 0 ∷ pos 3 ∷ []
+
+-- the other triangle of that pair
+unfoldable pub tall : List ℤ
+tall = pos 6 ∷ pos 0 ∷ pos 3 ∷ pos 6 ∷ pos 3 ∷ pos 0 ∷ []
 
 -- a triangle with a corner whose nearest point in `wide` is a neighbour of the support corner
 unfoldable pub thin : List ℤ
@@ -211,15 +220,83 @@ corner s i f upper x y lower = record {
   point = record { x = x; y = y; lower = lower };
 }
 
--- a spent report: the steps made, the support corners of A and B, and the worst so far
-abbrev spent : ℕ → ℕ → ℕ → WorstSoFar → Comparison
-spent steps i j worst =
-    Comparison.Reported (Report.Spent (record { steps = steps; support = record { a = i; b = j }; worst = worst }))
+-- corner 0 of a side, within
+abbrev zeroth : Side → ℤ → ℤ → CornerGap
+zeroth s x y = corner s 0 Feature.Within 0 x y 1
 
--- a done report: the steps made, the answer and its clearance
-abbrev done : ℕ → CornerGap → ℕ → Comparison
-done steps answer clearance =
-    Comparison.Reported (Report.Done (record { steps = steps; answer = answer; clearance = clearance }))
+-- corner 2 of S, which is side s, against T
+abbrev fromS : Side → CornerGap
+fromS s = corner s 2 (Feature.Edge 1) 256 (pos 64) (pos 64) 32
+
+-- corner 0 of S against S moved by (10,0)
+abbrev movedA0 : CornerGap
+movedA0 = corner A 0 (Feature.Corner 0) 100 (pos 10) (pos 0) 1
+
+-- corner 0 of the moved one against S
+abbrev movedB0 : CornerGap
+movedB0 = corner B 0 (Feature.Corner 1) 36 (pos 4) (pos 0) 1
+
+-- corner 1 of the moved one against S
+abbrev movedB1 : CornerGap
+movedB1 = corner B 1 (Feature.Corner 1) 100 (pos 4) (pos 0) 1
+
+-- corner 0 of each of the two triangles that are farthest apart
+abbrev far : Side → ℤ → CornerGap
+far s x = corner s 0 (Feature.Edge 1) 4095872001 x x 2
+
+-- corner 2 of S3, which is side s, against T3
+abbrev fromS3 : Side → CornerGap
+fromS3 s = corner s 2 (Feature.Edge 1) 81 (pos 27) (pos 27) 18
+
+-- corner 2 of `upward` against `downward`
+abbrev upwardA2 : CornerGap
+upwardA2 = corner A 2 (Feature.Edge 2) 256 (pos 32) (pos 0) 16
+
+-- corner 2 of `square` against the moved one
+abbrev squareA2 : CornerGap
+squareA2 = corner A 2 (Feature.Corner 2) 100 (pos 9) (pos 1) 1
+
+-- corner 3 of it
+abbrev squareA3 : CornerGap
+squareA3 = corner A 3 (Feature.Corner 3) 100 (pos 9) (negsuc 0) 1
+
+-- corner 0 of the moved one against `square`
+abbrev squareB0 : CornerGap
+squareB0 = corner B 0 (Feature.Corner 0) 100 (pos 1) (negsuc 0) 1
+
+-- corner 0 of `flat` against `tall`
+abbrev flatA0 : CornerGap
+flatA0 = corner A 0 (Feature.Corner 2) 9 (pos 3) (pos 0) 1
+
+-- corner 1 of `tall` against `flat`
+abbrev tallB1 : CornerGap
+tallB1 = corner B 1 (Feature.Edge 1) 324 (pos 108) (pos 108) 36
+
+-- corner 0 of `thin` against `wide`
+abbrev thinA0 : CornerGap
+thinA0 = corner A 0 (Feature.Corner 0) 4 (pos 0) (pos 0) 1
+
+-- corner 1 of `wide` against `thin`
+abbrev wideB1 : CornerGap
+wideB1 = corner B 1 (Feature.Edge 1) 81 (negsuc 10) (negsuc 6) 10
+
+-- a spent report: the steps made, the support corners of A and B, the worst so far, and that of A and of B
+abbrev spent : ℕ → ℕ → ℕ → WorstSoFar → WorstSoFar → WorstSoFar → Comparison
+spent steps i j worst of-a of-b = Comparison.Reported (Report.Spent (record {
+  steps = steps;
+  support = record { a = i; b = j };
+  worst = worst;
+  sides = record { a = of-a; b = of-b };
+}))
+
+-- a done report: the steps made, the answer and its clearance, and the answers of A and B
+abbrev done : ℕ → CornerGap → ℕ → CornerGap → CornerGap → Comparison
+done steps answer clearance of-a of-b = Comparison.Reported (Report.Done (record {
+  steps = steps;
+  answer = answer;
+  clearance = clearance;
+  sides = record { a = of-a; b = of-b };
+}))
 
 -- the examples
 abbrev pub cases : List Case
@@ -246,30 +323,41 @@ cases =
     ∷ searches (point (pos 12) (pos 9)) wedge (cornerOne 90)
     ∷ searches (point (pos 6) (pos 1)) wedge (within (pos 6) (pos 1))
     ∷ orders S T (a 0 ∷ b 0 ∷ a 1 ∷ b 1 ∷ a 2 ∷ a 3 ∷ b 2 ∷ [])
-    ∷ compares S T 512 (done 7 (corner A 2 (Feature.Edge 1) 256 (pos 64) (pos 64) 32) 3)
-    ∷ compares S T 0 (spent 0 0 0 None)
-    ∷ compares S T 3 (spent 3 2 1 None)
-    ∷ compares S T 4 (spent 4 2 2 (Worst (corner A 2 (Feature.Edge 1) 256 (pos 64) (pos 64) 32)))
-    ∷ compares S T 6 (spent 6 0 2 (Worst (corner A 2 (Feature.Edge 1) 256 (pos 64) (pos 64) 32)))
-    ∷ compares T S 7 (done 7 (corner B 2 (Feature.Edge 1) 256 (pos 64) (pos 64) 32) 3)
-    ∷ compares S moved 8 (done 8 (corner A 0 (Feature.Corner 0) 100 (pos 10) (pos 0) 1) 10)
-    ∷ compares S S 8 (done 8 (corner A 0 Feature.Within 0 (pos 0) (pos 0) 1) 0)
-    ∷ compares S turned 8 (done 8 (corner A 0 Feature.Within 0 (pos 0) (pos 0) 1) 0)
-    ∷ compares turned S 8 (done 8 (corner A 0 Feature.Within 0 (pos 4) (pos 4) 1) 0)
-    ∷ compares low high 6 (done 6 (corner A 0 (Feature.Edge 1) 4095872001 (pos 31999) (pos 31999) 2) 45255)
+    ∷ compares S T 512 (done 7 (fromS A) 3 (fromS A) (zeroth B (pos 0) (pos 0)))
+    -- no side shows a corner; then A alone; then B alone, with the outlines exchanged; then both
+    ∷ compares S T 0 (spent 0 0 0 None None None)
+    ∷ compares S T 3 (spent 3 2 1 None None None)
+    ∷ compares S T 4 (spent 4 2 2 (Worst (fromS A)) (Worst (fromS A)) None)
+    ∷ compares S T 6 (spent 6 0 2 (Worst (fromS A)) (Worst (fromS A)) None)
+    ∷ compares T S 4 (spent 4 2 2 (Worst (fromS B)) None (Worst (fromS B)))
+    ∷ compares T S 7 (done 7 (fromS B) 3 (zeroth A (pos 0) (pos 0)) (fromS B))
+    ∷ compares S moved 1 (spent 1 1 0 (Worst movedA0) (Worst movedA0) (Worst movedB0))
+    -- of equal gaps of A and B, A's
+    ∷ compares S moved 3 (spent 3 2 1 (Worst movedA0) (Worst movedA0) (Worst movedB1))
+    ∷ compares S moved 8 (done 8 movedA0 10 movedA0 movedB1)
+    ∷ compares S S 8 (done 8 (zeroth A (pos 0) (pos 0)) 0 (zeroth A (pos 0) (pos 0)) (zeroth B (pos 0) (pos 0)))
+    ∷ compares S turned 8 (done 8 (zeroth A (pos 0) (pos 0)) 0 (zeroth A (pos 0) (pos 0)) (zeroth B (pos 4) (pos 4)))
+    ∷ compares turned S 8 (done 8 (zeroth A (pos 4) (pos 4)) 0 (zeroth A (pos 4) (pos 4)) (zeroth B (pos 0) (pos 0)))
+    ∷ compares low high 6 (done 6 (far A (pos 31999)) 45255 (far A (pos 31999)) (far B (negsuc 31998)))
     -- 81/18 is above the square of 2, its whole part is not; 256/16 is the square of 4
-    ∷ compares S3 T3 7 (done 7 (corner A 2 (Feature.Edge 1) 81 (pos 27) (pos 27) 18) 3)
-    ∷ compares upward downward 6 (done 6 (corner A 2 (Feature.Edge 2) 256 (pos 32) (pos 0) 16) 4)
-    -- of equal gaps corner 2 takes the place of corner 3, which was found before
-    ∷ compares square squareMoved 5 (spent 5 2 1 (Worst (corner A 3 (Feature.Corner 3) 100 (pos 9) (negsuc 0) 1)))
-    ∷ compares square squareMoved 6 (spent 6 2 2 (Worst (corner A 2 (Feature.Corner 2) 100 (pos 9) (pos 1) 1)))
+    ∷ compares S3 T3 7 (done 7 (fromS3 A) 3 (fromS3 A) (zeroth B (pos 0) (pos 0)))
+    ∷ compares upward downward 6 (done 6 upwardA2 4 upwardA2 (corner B 1 (Feature.Edge 0) 144 (pos 32) (pos 0) 16))
+    -- of equal gaps of a side corner 2 takes the place of corner 3, which was found before
+    ∷ compares square squareMoved 5 (spent 5 2 1 (Worst squareA3) (Worst squareA3) (Worst squareB0))
+    ∷ compares square squareMoved 6 (spent 6 2 2 (Worst squareA2) (Worst squareA2) (Worst squareB0))
     -- the nearest point is a neighbour of the support corner
-    ∷ compares thin wide 2 (spent 2 0 0 (Worst (corner A 0 (Feature.Corner 0) 4 (pos 0) (pos 0) 1)))
+    ∷ compares thin wide 2 (spent 2 0 0 (Worst thinA0) (Worst thinA0) None)
+    -- the greater gap is B's
+    ∷ compares thin wide 6 (done 6 wideB1 3 thinA0 wideB1)
+    -- 9/1 of A and 324/36 of B are equal
+    ∷ compares flat tall 6 (done 6 flatA0 3 flatA0 tallB1)
     -- refused: A's list, B's, and both, where A's refusal stands
     ∷ compares star T 0 (Comparison.Refused (notLeft (Of A) 0 3))
     ∷ compares S clockwise 0 (Comparison.Refused (notLeft (Of B) 0 2))
     ∷ compares straight star 512 (Comparison.Refused (notLeft (Of A) 0 2))
-    ∷ exhausts S T (corner A 2 (Feature.Edge 1) 256 (pos 64) (pos 64) 32)
-    ∷ exhausts low high (corner A 0 (Feature.Edge 1) 4095872001 (pos 31999) (pos 31999) 2)
-    ∷ exhausts square squareMoved (corner A 2 (Feature.Corner 2) 100 (pos 9) (pos 1) 1)
+    ∷ exhausts S T (fromS A) (zeroth B (pos 0) (pos 0)) (fromS A)
+    ∷ exhausts S moved movedA0 movedB1 movedA0
+    ∷ exhausts low high (far A (pos 31999)) (far B (negsuc 31998)) (far A (pos 31999))
+    ∷ exhausts square squareMoved squareA2 squareB0 squareA2
+    ∷ exhausts thin wide thinA0 wideB1 wideB1
     ∷ []

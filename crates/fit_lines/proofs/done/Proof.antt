@@ -1,4 +1,4 @@
--- `fit_lines::done` puts the five lines.
+-- `fit_lines::done` puts the seven lines.
 use borrow.Author.Needs.{needs}
 use Rattle.text.proofs.OutputLaws.{joined}
 use Rattle.fit_lines.specs.Lines.{doneText}
@@ -10,9 +10,9 @@ unfolding doneText
 returns c =
     let gap = c .before .before .before .before .before .before .before .gap-line .ensures in
     let figure = joined _ _ _ gap (c .before .before .before .before .before .number-line .ensures) in
-    let corner = joined _ _ _ figure (c .before .before .before .before .from-line .ensures) in
-    let nearest = joined _ _ _ corner (c .before .before .before .to-line .ensures) in
-    joined _ _ _ nearest (c .number-line2 .ensures)
+    let side-a = joined _ _ _ figure (c .before .before .before .before .side-lines .ensures) in
+    let side-b = joined _ _ _ side-a (c .before .before .before .side-lines2 .ensures) in
+    joined _ _ _ side-b (c .number-line2 .ensures)
 
 pub done-spec : {M : Type 1} → statement M
 done-spec =

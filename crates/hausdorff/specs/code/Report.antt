@@ -6,6 +6,7 @@ use lib.Dec.{ltb}
 use Rattle.integers.specs.declared.fraction.Fraction.{Fraction}
 use Rattle.integers.specs.code.Root.{ceilingRoot}
 use Rattle.outline.specs.Corners.{corner}
+use Rattle.outline.specs.declared.Side.{Side}
 use Rattle.outline.specs.declared.Side.the-variants.{A, B}
 use Rattle.hausdorff.specs.declared.CornerGap.{CornerGap}
 use Rattle.hausdorff.specs.declared.Spent.{Spent}
@@ -13,29 +14,40 @@ use Rattle.hausdorff.specs.declared.Done.{Done}
 use Rattle.hausdorff.specs.declared.Report.{Report}
 use Rattle.hausdorff.specs.declared.Report.the-variants as Report
 use Rattle.hausdorff.specs.Pair.{Pair, stepCount}
+use Rattle.hausdorff.specs.CornerGap.{worse}
 use Rattle.hausdorff.specs.Law.{orWithin}
-use Rattle.hausdorff.specs.code.Sweep.{worstSoFar}
+use Rattle.hausdorff.specs.code.Sweep.{worstAfter, worstSoFar}
 use Rattle.hausdorff.specs.Support.{supportAfter}
 
 -- the clearance of a gap
 abbrev pub clearance : Fraction → ℕ
 clearance g = ceilingRoot g
 
--- the worst so far after step N, or A's corner 0, within, if that is none
-abbrev pub answer : Pair → CornerGap
-answer pair = orWithin (corner (pair A) 0) (worstSoFar pair (stepCount pair))
+-- the answer of a side: its worst so far after step N, or its corner 0, within, if that is none
+abbrev pub sideAnswer : Pair → Side → CornerGap
+sideAnswer pair s = orWithin s (corner (pair s) 0) (worstAfter pair (stepCount pair) s)
 
--- the steps made (equal to the allowance), both support corners, and the worst so far or none
+-- the worse of A's and B's
+abbrev pub answer : Pair → CornerGap
+answer pair = worse (sideAnswer pair A) (sideAnswer pair B)
+
+-- the steps made (equal to the allowance), both support corners, and the worst so far or none, overall and of each side
 abbrev pub spent : Pair → ℕ → Spent
 spent pair allowance = record {
   steps = allowance;
   support = record { a = supportAfter pair allowance A; b = supportAfter pair allowance B };
   worst = worstSoFar pair allowance;
+  sides = record { a = worstAfter pair allowance A; b = worstAfter pair allowance B };
 }
 
--- the steps made (equal to N), the answer and its clearance
+-- the steps made (equal to N), the answer, its clearance and the answer of each side
 abbrev pub done : Pair → Done
-done pair = record { steps = stepCount pair; answer = answer pair; clearance = clearance (answer pair .gap) }
+done pair = record {
+  steps = stepCount pair;
+  answer = answer pair;
+  clearance = clearance (answer pair .gap);
+  sides = record { a = sideAnswer pair A; b = sideAnswer pair B };
+}
 
 -- spent if the allowance is below N, otherwise done
 unfoldable pub report : Pair → ℕ → Report

@@ -44,12 +44,16 @@ WorstFits (Worst w) = CornerFits w
 pub record DoneFits (d : Done) : Type 0 where
   pub answer : CornerFits (d .answer)
   pub clearance : FitsI64 (d .clearance)
+  pub side-a : CornerFits (d .sides .a)
+  pub side-b : CornerFits (d .sides .b)
 
 -- of a spent report
 pub record SpentFits (p : Spent) : Type 0 where
   pub support-a : FitsI64 (p .support .a)
   pub support-b : FitsI64 (p .support .b)
   pub worst : WorstFits (p .worst)
+  pub side-a : WorstFits (p .sides .a)
+  pub side-b : WorstFits (p .sides .b)
 
 -- of a report
 abbrev pub ReportFits : Report → Type 0

@@ -10,7 +10,8 @@ use Rattle.hausdorff.specs.Pair.{Pair, other}
 use Rattle.hausdorff.specs.Support.{supportAfter}
 use Rattle.hausdorff.specs.code.Counting.{isCounted}
 use Rattle.hausdorff.specs.code.CornerGap.{cornerGap}
-use Rattle.hausdorff.specs.code.Worst.{shownNumber, keep, overall}
+use Rattle.hausdorff.specs.CornerGap.{overall}
+use Rattle.hausdorff.specs.code.Worst.{shownNumber, keep}
 
 -- what measuring finds of a side: its support corner if it counts, or none
 unfoldable pub measured : Pair → (Side → ℕ) → Side → WorstSoFar

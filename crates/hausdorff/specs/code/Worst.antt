@@ -1,4 +1,4 @@
--- The worst so far, computed. One is kept for each side; rule 5.7's is the worse of the two (`overall`).
+-- The worst so far of a side, computed.
 use Prim.Native.Nat.{ℕ}
 use mathlib.Core.Bool.{Bool, cond, not, _&&_, _||_}
 use lib.Dec.{ltb}
@@ -8,7 +8,6 @@ use Rattle.hausdorff.specs.declared.CornerGap.{CornerGap}
 use Rattle.hausdorff.specs.declared.WorstSoFar.{WorstSoFar}
 use Rattle.hausdorff.specs.declared.WorstSoFar.the-variants.{None, Worst}
 use Rattle.hausdorff.specs.Pair.{Pair}
-use Rattle.hausdorff.specs.CornerGap.{worse}
 
 -- the number that a corner is listed under, by which the rule tells equals apart: its own
 abbrev pub shownNumber : Pair → Side → ℕ → ℕ
@@ -26,9 +25,3 @@ abbrev pub keep : (ℕ → ℕ) → WorstSoFar → WorstSoFar → WorstSoFar
 keep shown None new = new
 keep shown (Worst old) None = Worst old
 keep shown (Worst old) (Worst new) = Worst (cond (takesPlace shown new old) new old)
-
--- the worse of A's and B's; A's where their gaps are equal
-abbrev pub overall : WorstSoFar → WorstSoFar → WorstSoFar
-overall None b = b
-overall (Worst a) None = Worst a
-overall (Worst a) (Worst b) = Worst (worse a b)

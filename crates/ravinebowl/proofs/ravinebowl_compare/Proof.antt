@@ -19,9 +19,10 @@ returns c =
     let (status, list) = compare-wrong _ _ _ _ (c .before .if1 .taken) in
     (c .wrong-result-length .ensures ∙ sym status, sym list)
 
-of-report-requires : tie.Need-of-report-requires
-of-report-requires c κs =
-    report-fits _ _ _ _ (rw (c .before .report .given .1) at (c .before .before .before .compare .ensures .1))
+write-report-requires : tie.Need-write-report-requires
+write-report-requires c κs =
+    let known = c .before .before in let compared = known .before .before in
+    (report-fits _ _ _ _ (rw (known .report .given .1) at (compared .compare .ensures .1)), compared .before .if1 .left)
 
 returns-2 : tie.Need-returns-2
 returns-2 c =
@@ -30,9 +31,9 @@ returns-2 c =
 
 returns-3 : tie.Need-returns-3
 returns-3 c =
-    let wrote = c .before .before in let made = wrote .before .before .before in let known = made .before .before in
+    let wrote = c .before .before in let known = wrote .before .before .before in
     let (status, list) = right (known .before .before) (known .report .given .1) in
-    (c .answered .ensures ∙ sym status, wrote .write .ensures ∙ made .of-report .ensures ∙ sym list)
+    (c .answered .ensures ∙ sym status, wrote .write-report .ensures ∙ sym list)
 
 pub ravinebowl-compare-spec : {M : Type 1} → statement M
 ravinebowl-compare-spec =
@@ -41,8 +42,8 @@ ravinebowl-compare-spec =
     (search needs)
     returns
     (search needs) (search needs) (search needs) (search needs)
-    of-report-requires
-    (search needs) (search needs) (search needs)
+    write-report-requires
+    (search needs)
     returns-2
     (search needs)
     returns-3)

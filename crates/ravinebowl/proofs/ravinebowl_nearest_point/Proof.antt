@@ -2,12 +2,14 @@
 -- nearest point answers.
 use borrow.Author.Needs.{needs}
 use mathlib.Core.Path.{_≡_, sym, _∙_}
+use native.Mathlib.Omega.{arith}
 use mir.Syntax.{w32}
 use mir.ValLaws.{toZ-ofZ}
 use Rattle.nearest.specs.declared.NearestAnswer.{NearestAnswer}
 use Rattle.ravinebowl.specs.Calls.{nearestStatus, nearestList, statusOfNearest, listOfNearest}
 use Rattle.hausdorff.proofs.Fitting.{found-fits}
 use Rattle.ravinebowl.proofs.CallsLaws.{nearest-wrong, nearest-right}
+use Rattle.ravinebowl.proofs.WritingLaws.{written-whole}
 use Rattle.ravinebowl.proofs.ravinebowl_nearest_point.Statement.{statement}
 use Rattle.ravinebowl.proofs.ravinebowl_nearest_point.Tie as tie
 
@@ -39,7 +41,9 @@ returns-3 : tie.Need-returns-3
 returns-3 c =
     let wrote = c .before .before in let made = wrote .before .before .before in let known = made .before .before in
     let (status, list) = right (known .before .before) (known .found .given .1) in
-    (c .answered .ensures ∙ sym status, wrote .write .ensures ∙ made .of-nearest .ensures ∙ sym list)
+    let before = known .before .before .before .before .args .result .now in
+    let whole = written-whole before (made .of-nearest .result) (omega arith) (wrote .write .ensures) in
+    (c .answered .ensures ∙ sym status, whole ∙ made .of-nearest .ensures ∙ sym list)
 
 pub ravinebowl-nearest-point-spec : {M : Type 1} → statement M
 ravinebowl-nearest-point-spec =
