@@ -1,15 +1,14 @@
-/* Times comparing at 2×4, 2×32, 2×128 and 2×256 corners: the proved call, reading both lists alone, and beside them the plain sweep and
-   the exhaustive search of plain.h, on the same outlines in one run. What the call takes more than reading is its sweep. Each figure is
-   the median of 31 runs, in nanoseconds for a comparison. */
+/* Times comparing at 2×4, 2×32, 2×128 and 2×256 corners: the proved call, the checks of both lists alone, and beside
+   them the plain sweep and the exhaustive search of plain.h, on the same outlines in one run. What the call takes more
+   than the checks is its sweep, with the filling of both outlines and the report. Each figure is the median of 31 runs,
+   in nanoseconds for a comparison. */
 #include <math.h>
 #include <stdio.h>
 #include <stdlib.h>
+#include "checks.h"
 #include "clock.h"
 #include "plain.h"
 #include "ravinebowl.h"
-
-/* How many corners an outline has, or 0 where it is refused. */
-size_t timing_read(const int32_t *s, size_t length);
 
 enum { RUNS = 31, MOST = 256 };
 
@@ -31,7 +30,7 @@ static uint64_t digest_of(const Done *done) {
     return digest(done->answer.gap.upper, done->clearance, done->a.gap.upper, done->b.gap.upper);
 }
 
-/* Each way, some times over. Reading gives how many corners both have; all turns together give the greatest. */
+/* Each way, some times over. All turns together give the greatest. */
 static uint64_t call(const Pair *p, uint32_t turns) {
     uint64_t greatest = 0;
     for (uint32_t i = 0; i < turns; i++) {
@@ -46,12 +45,10 @@ static uint64_t call(const Pair *p, uint32_t turns) {
     return greatest;
 }
 
-static uint64_t reading(const Pair *p, uint32_t turns) {
+static uint64_t checks(const Pair *p, uint32_t turns) {
     uint64_t greatest = 0;
-    for (uint32_t i = 0; i < turns; i++) {
-        size_t a = timing_read(&p->a[0].x, 2 * p->n), b = timing_read(&p->b[0].x, 2 * p->n);
-        greatest = greater(greatest, a + b);
-    }
+    for (uint32_t i = 0; i < turns; i++)
+        greatest = greater(greatest, check(&p->a[0].x, 2 * p->n).code + check(&p->b[0].x, 2 * p->n).code);
     return greatest;
 }
 
@@ -77,7 +74,7 @@ static uint64_t exhaustive(const Pair *p, uint32_t turns) {
 
 enum { WAYS = 4 };
 
-static uint64_t (*const ways[WAYS])(const Pair *, uint32_t) = {call, reading, plain, exhaustive};
+static uint64_t (*const ways[WAYS])(const Pair *, uint32_t) = {call, checks, plain, exhaustive};
 
 /* The medians of all ways, their runs taken in turn so that load on the machine meets each alike. */
 static void medians(const Pair *p, double *out) {
@@ -108,7 +105,8 @@ static void ellipse(Corner *out, size_t n, double rx, double ry, double x, doubl
 static void time_pair(const char *name, const Pair *p) {
     double t[WAYS];
     uint64_t answer = call(p, 1);
-    if (answer == 0 || answer != plain(p, 1) || answer != exhaustive(p, 1) || reading(p, 1) != 2 * p->n) {
+    if (answer == 0 || answer != plain(p, 1) || answer != exhaustive(p, 1) ||
+        checks(p, 1) != 2 * RAVINEBOWL_WRONG_LENGTH) {
         fprintf(stderr, "%s, 2x%zu: an outline is refused, or the answers differ\n", name, p->n);
         exit(1);
     }
@@ -120,7 +118,7 @@ static void time_pair(const char *name, const Pair *p) {
 
 int main(void) {
     static const size_t counts[] = {4, 32, 128, 256};
-    puts("| outlines | corners | call | reading | sweep | for a step | plain sweep | ratio | exhaustive | ratio |");
+    puts("| outlines | corners | call | checks | sweep | for a step | plain sweep | ratio | exhaustive | ratio |");
     puts("|---|---|---|---|---|---|---|---|---|---|");
     for (int i = 0; i < 4; i++) {
         Pair p = {.n = counts[i]};

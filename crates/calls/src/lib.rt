@@ -11,6 +11,7 @@ use outline::RefusedSide;
 use outline::Side;
 use outline::Verdict;
 use plane::Corner;
+use reading::checks;
 ghost use mathlib.Core.Path.{_≡_};
 ghost use Rattle.outline.specs.declared.RefusedSide.the-variants.{NoSide};
 ghost use Rattle.outline.specs.Reading.{IsReading};
@@ -72,15 +73,11 @@ pub fn compare(a: &[i32], b: &[i32], allowance: u32) -> Comparison
     ensures answer { λ r. ⌜ r ≡ comparison (now (a .entry)) (now (b .entry)) allowance ⌝ }
     ensures rules { λ r. ⌜ IsComparison (now (a .entry)) (now (b .entry)) allowance r ⌝ }
 {
-    let reading_a = reading::read(a, RefusedSide::Of(Side::A));
-    let verdict_a = reading_a.verdict;
-    if let Verdict::Refused(refusal) = verdict_a {
+    if let Verdict::Refused(refusal) = checks::check(a, RefusedSide::Of(Side::A)) {
         return Comparison::Refused(refusal);
     }
-    let reading_b = reading::read(b, RefusedSide::Of(Side::B));
-    let verdict_b = reading_b.verdict;
-    if let Verdict::Refused(refusal) = verdict_b {
+    if let Verdict::Refused(refusal) = checks::check(b, RefusedSide::Of(Side::B)) {
         return Comparison::Refused(refusal);
     }
-    Comparison::Reported(comparing::compare(reading_a.outline, reading_b.outline, allowance))
+    Comparison::Reported(comparing::compare(a, b, allowance))
 }

@@ -3,17 +3,17 @@
 --     worse-positive       and the gap of the worse of two has a lower number above 0
 --     stepsMade            the steps that are made: all N, or as many as are allowed
 --     reportOf-after       what is reported after them is `report`
---     pairOf               the pair of two outlines' values
---     window-read          corners read from a value, around one of them, are what a step sees there
+--     window-read          corners read from the value of a list, around one of them, are what a step sees there
 --     Neighbours           a corner's number and those on either side are below the count
---     outline-counted, outlines-accepted    what is known of values that hold outlines
 -- The loop that makes the steps:
 --     Running              the invariant: the state is the sweep of two outlines after k of the steps
 --     run-begins, run-ends     it holds before step 1; after the last step the state is the sweep after all of them
 --     run-can-step, run-on     a step can be made while there is one to make, and after it the invariant holds again
+--     counts-fit           the counts of two accepted lists together
 --     compare-reports      the report of the state after the steps that are made is `report`
 use Prim.Native.Nat.{ℕ, suc, _+_, _<_, _≤_}
-use mathlib.Core.Path.{_≡_, refl, sym, _∙_}
+use mathlib.Core.List.{List}
+use mathlib.Core.Path.{_≡_, refl, _∙_}
 use mathlib.Core.Bool.{Bool, true, false, cond}
 use native.Mathlib.Numerals.{add-one}
 use native.Mathlib.Omega.{arith}
@@ -23,11 +23,10 @@ use Rattle.integers.specs.Fraction.{isLess}
 use Rattle.integers.specs.code.Fraction.{Bounded}
 use Rattle.plane.specs.declared.Corner.{Corner}
 use Rattle.outline.specs.declared.Outline.{Outline}
-use Rattle.outline.specs.code.Held.{IsOutline}
-use Rattle.outline.specs.Corners.{corner, next, previous, most}
-use Rattle.outline.specs.code.Held.{cornersOf}
+use Rattle.outline.specs.Convex.{Accepted}
+use Rattle.outline.specs.Corners.{corner, next, previous, held, most}
 use Rattle.outline.proofs.EdgeLaws.{accepted-polygon}
-use Rattle.outline.proofs.HeldLaws.{length-cornersOf, cornersOf-corner}
+use Rattle.outline.proofs.HeldLaws.{held-corner}
 use Rattle.outline.proofs.CornersLaws.{before-below, after-below}
 use Rattle.outline.specs.declared.Side.{Side}
 use Rattle.outline.specs.declared.Side.the-variants.{A, B}
@@ -42,6 +41,7 @@ use Rattle.hausdorff.specs.CornerGap.{worse}
 use Rattle.hausdorff.specs.Law.{orWithin}
 use Rattle.hausdorff.specs.code.Report.{spent, done, report}
 use Rattle.hausdorff.specs.code.Lowest.{LowestLeftmost}
+use Rattle.hausdorff.proofs.CallLaws.{both-accepted}
 use Rattle.hausdorff.proofs.WorstLaws.{support-known}
 use Rattle.sweep.specs.declared.State.{State}
 use Rattle.measuring.specs.declared.Window.{Window}
@@ -82,24 +82,22 @@ reportOf-after pair allowance state = go (ltb allowance (stepCount pair))
     go true is = rw (is .support A, is .support B, is .worst A, is .worst B)
     go false is = rw (is .worst A, is .worst B)
 
-abbrev pub pairOf : Outline → Outline → Pair
-pairOf a b = both (cornersOf a) (cornersOf b)
-
 -- the corners are in the places of their numbers
-pub window-read : (o : Outline) {i earlier before after later : ℕ} → o .count ≡ length (cornersOf o)
-    → i < o .count → before ≡ previous (o .count) i → earlier ≡ previous (o .count) before → after ≡ next (o .count) i
-    → later ≡ next (o .count) after
+pub window-read : (cs : List Corner) {o : Outline} {n i earlier before after later : ℕ} → o ≡ held cs → n ≡ length cs
+    → i < n → before ≡ previous n i → earlier ≡ previous n before → after ≡ next n i → later ≡ next n after
     → _≡_ {A = Window} (record {
-      count = o .count;
+      count = n;
       number = i;
       earlier = corner (o .corners) earlier;
       before = corner (o .corners) before;
       corner = corner (o .corners) i;
       after = corner (o .corners) after;
       later = corner (o .corners) later;
-    }) (windowAt (cornersOf o) i)
-window-read o {i} {earlier} {before} {after} {later} counted known before-is earlier-is after-is later-is =
-    let read : (j : ℕ) → j < o .count → corner (cornersOf o) j ≡ corner (o .corners) j = cornersOf-corner o in
+    }) (windowAt cs i)
+window-read cs {o} {n} {i} {earlier} {before} {after} {later} holds counted known before-is earlier-is after-is
+    later-is =
+    let read : (j : ℕ) → j < n → corner (o .corners) j ≡ corner cs j =
+    λ j below. rw holds (held-corner cs j (omega (arith, counted))) in
     cc (
       counted,
       read i known,
@@ -118,78 +116,73 @@ pub record Neighbours (n i : ℕ) : Type 0 where
 neighbours : {n i : ℕ} → i < n → Neighbours n i
 neighbours known = record { known = known; before-known = before-below refl known; after-known = after-below refl known }
 
-pub record Running (a b : Outline) (steps k : ℕ) (state : State) : Type 0 where
-  pub accepted : AcceptedPair (pairOf a b)
-  pub counted-a : a .count ≡ length (cornersOf a)
-  pub counted-b : b .count ≡ length (cornersOf b)
-  pub within : steps ≤ a .count + b .count
+pub record Running (cs ds : List Corner) (n m : ℕ) (a b : Outline) (steps k : ℕ) (state : State) : Type 0 where
+  pub accepted : AcceptedPair (both cs ds)
+  pub holds-a : a ≡ held cs
+  pub holds-b : b ≡ held ds
+  pub counted-a : n ≡ length cs
+  pub counted-b : m ≡ length ds
+  pub within : steps ≤ n + m
   pub made : k ≤ steps
-  pub is-after : IsAfter (pairOf a b) k state
+  pub is-after : IsAfter (both cs ds) k state
   -- what follows from these, for the sums and the reads of the code
-  pub fits-a : a .count ≤ most
-  pub fits-b : b .count ≤ most
-  pub neighbours-a : Neighbours (a .count) (state .a .support)
-  pub neighbours-b : Neighbours (b .count) (state .b .support)
+  pub fits-a : n ≤ most
+  pub fits-b : m ≤ most
+  pub neighbours-a : Neighbours n (state .a .support)
+  pub neighbours-b : Neighbours m (state .b .support)
 
--- the count of a value that holds an outline is how many corners it has
-pub outline-counted : {o : Outline} → IsOutline o → length (o .corners) ≡ most → o .count ≡ length (cornersOf o)
-outline-counted {o} outline places = sym (length-cornersOf o (omega (arith, outline .fits)))
-
--- each value holds an accepted outline
-pub outlines-accepted : {a b : Outline} → IsOutline a → IsOutline b → AcceptedPair (pairOf a b)
-outlines-accepted outline-a outline-b A = outline-a .accepted
-outlines-accepted outline-a outline-b B = outline-b .accepted
-
-module _ {a b : Outline} {steps : ℕ} where
+module _ {cs ds : List Corner} {n m : ℕ} {a b : Outline} {steps : ℕ} where
   -- the support corners after k steps are corners of the outlines
-  running : {k : ℕ} {state : State} → AcceptedPair (pairOf a b) → a .count ≡ length (cornersOf a) → b .count ≡ length (cornersOf b)
-      → steps ≤ a .count + b .count → k ≤ steps → IsAfter (pairOf a b) k state → Running a b steps k state
-  running {k} accepted counted-a counted-b within made is-after =
-      let below = support-known (pairOf a b) (λ s. accepted-polygon (accepted s)) k in record {
+  running : {k : ℕ} {state : State} → AcceptedPair (both cs ds) → a ≡ held cs → b ≡ held ds → n ≡ length cs
+      → m ≡ length ds → steps ≤ n + m → k ≤ steps → IsAfter (both cs ds) k state → Running cs ds n m a b steps k state
+  running {k} accepted holds-a holds-b counted-a counted-b within made is-after =
+      let below = support-known (both cs ds) (λ s. accepted-polygon (accepted s)) k in record {
         accepted = accepted;
+        holds-a = holds-a;
+        holds-b = holds-b;
         counted-a = counted-a;
         counted-b = counted-b;
         within = within;
         made = made;
         is-after = is-after;
-        fits-a = omega (arith, accepted A .at-most);
-        fits-b = omega (arith, accepted B .at-most);
-        neighbours-a = neighbours (omega (arith, below A, is-after .support A));
-        neighbours-b = neighbours (omega (arith, below B, is-after .support B));
+        fits-a = omega (arith, counted-a, accepted A .at-most);
+        fits-b = omega (arith, counted-b, accepted B .at-most);
+        neighbours-a = neighbours (omega (arith, counted-a, below A, is-after .support A));
+        neighbours-b = neighbours (omega (arith, counted-b, below B, is-after .support B));
       }
 
   -- each side begins where the sweep does
-  pub run-begins : {i j : ℕ} → IsOutline a → IsOutline b → length (a .corners) ≡ most → length (b .corners) ≡ most
-      → steps ≤ a .count + b .count → LowestLeftmost (cornersOf a) i → LowestLeftmost (cornersOf b) j
-      → Running a b steps 0 (record { a = beginning i (a .count); b = beginning j (b .count) })
-  run-begins {i} {j} outline-a outline-b places-a places-b within lowest-a lowest-b =
-      running accepted (all A) (all B) within (omega arith)
-      (begins-after (pairOf a b) (λ s. accepted-polygon (accepted s)) start lowest all none)
+  pub run-begins : {i j : ℕ} → Accepted cs → Accepted ds → a ≡ held cs → b ≡ held ds → n ≡ length cs → m ≡ length ds
+      → steps ≤ stepCount (both cs ds) → LowestLeftmost cs i → LowestLeftmost ds j
+      → Running cs ds n m a b steps 0 (record { a = beginning i n; b = beginning j m })
+  run-begins {i} {j} accepted-a accepted-b holds-a holds-b counted-a counted-b within lowest-a lowest-b =
+      running accepted holds-a holds-b counted-a counted-b (omega arith) (omega arith)
+      (begins-after (both cs ds) (λ s. accepted-polygon (accepted s)) start lowest all none)
     where
       start : State
-      start = record { a = beginning i (a .count); b = beginning j (b .count) }
+      start = record { a = beginning i n; b = beginning j m }
 
-      accepted : AcceptedPair (pairOf a b)
-      accepted = outlines-accepted outline-a outline-b
+      accepted : AcceptedPair (both cs ds)
+      accepted = both-accepted cs ds accepted-a accepted-b
 
-      lowest : (s : Side) → LowestLeftmost (pairOf a b s) (sideState start s .support)
+      lowest : (s : Side) → LowestLeftmost (both cs ds s) (sideState start s .support)
       lowest A = lowest-a
       lowest B = lowest-b
 
-      all : (s : Side) → sideState start s .remaining ≡ length (pairOf a b s)
-      all A = outline-counted outline-a places-a
-      all B = outline-counted outline-b places-b
+      all : (s : Side) → sideState start s .remaining ≡ length (both cs ds s)
+      all A = counted-a
+      all B = counted-b
 
       none : (s : Side) → sideState start s .worst ≡ None
       none A = refl
       none B = refl
 
-  module _ {k : ℕ} {state : State} (at-k : Running a b steps k state) where
+  module _ {k : ℕ} {state : State} (at-k : Running cs ds n m a b steps k state) where
     -- unfoldable, since what a step ensures is said of the pair and the steps of this record
-    unfoldable pub run-can-step : {window-a window-b : Window} → k < steps → window-a ≡ windowAt (cornersOf a) (state .a .support)
-        → window-b ≡ windowAt (cornersOf b) (state .b .support) → CanStep state window-a window-b
+    unfoldable pub run-can-step : {window-a window-b : Window} → k < steps → window-a ≡ windowAt cs (state .a .support)
+        → window-b ≡ windowAt ds (state .b .support) → CanStep state window-a window-b
     run-can-step more sees-a sees-b = record {
-      pair = pairOf a b;
+      pair = both cs ds;
       steps = k;
       accepted = at-k .accepted;
       more = omega (arith, at-k);
@@ -199,24 +192,27 @@ module _ {a b : Outline} {steps : ℕ} where
     }
 
     -- a step leads to the sweep after one step more
-    pub run-on : {stepped : State} → k < steps → IsAfter (pairOf a b) (suc k) stepped → Running a b steps (k + 1) stepped
+    pub run-on : {stepped : State} → k < steps → IsAfter (both cs ds) (suc k) stepped
+        → Running cs ds n m a b steps (k + 1) stepped
     run-on more is-after =
-        running (at-k .accepted) (at-k .counted-a) (at-k .counted-b) (at-k .within) (omega arith) (rw (add-one k) is-after)
+        running (at-k .accepted) (at-k .holds-a) (at-k .holds-b) (at-k .counted-a) (at-k .counted-b) (at-k .within)
+        (omega arith) (rw (add-one k) is-after)
 
     -- after the last turn k is the number of steps
-    pub run-ends : steps ≤ k → IsAfter (pairOf a b) steps state
+    pub run-ends : steps ≤ k → IsAfter (both cs ds) steps state
     run-ends all = let last : k ≡ steps = omega (arith, at-k) in rw last at (at-k .is-after)
 
-module _ {a b : Outline} (outline-a : IsOutline a) (outline-b : IsOutline b) (places-a : length (a .corners) ≡ most)
-    (places-b : length (b .corners) ≡ most) (allowance : ℕ) {steps : ℕ} (chosen : steps ≡ stepsMade (a .count + b .count) allowance) where
-  -- the counts together are N, and each one's first place has its corner 0
-  pub compare-reports : {state : State} {r : Report} → IsAfter (pairOf a b) steps state
-      → r ≡ reportOf state steps (ltb allowance (a .count + b .count)) (corner (a .corners) 0) (corner (b .corners) 0)
-      → r ≡ report (pairOf a b) allowance
-  compare-reports {state} is-after is =
-      let counted-a = outline-counted outline-a places-a in let counted-b = outline-counted outline-b places-b in
-      let total : a .count + b .count ≡ stepCount (pairOf a b) = omega (arith, counted-a, counted-b) in
-      let first-a = cornersOf-corner a 0 (omega (arith, counted-a, outline-a .accepted .at-least)) in
-      let first-b = cornersOf-corner b 0 (omega (arith, counted-b, outline-b .accepted .at-least)) in
-      is ∙ rw (chosen, total, ← first-a, ← first-b)
-      (reportOf-after (pairOf a b) allowance state (rw (chosen, total) at is-after))
+module _ {cs ds : List Corner} {n m : ℕ} (counted-a : n ≡ length cs) (counted-b : m ≡ length ds) where
+  -- an accepted list has at most 256 corners
+  pub counts-fit : Accepted cs → Accepted ds → n + m ≤ most + most
+  counts-fit accepted-a accepted-b = omega (arith, counted-a, counted-b, accepted-a .at-most, accepted-b .at-most)
+
+  -- the counts together are N
+  pub compare-reports : (allowance : ℕ) {steps : ℕ} {state : State} {first-a first-b : Corner} {r : Report}
+      → steps ≡ stepsMade (n + m) allowance → IsAfter (both cs ds) steps state
+      → first-a ≡ corner cs 0 → first-b ≡ corner ds 0
+      → r ≡ reportOf state steps (ltb allowance (n + m)) first-a first-b → r ≡ report (both cs ds) allowance
+  compare-reports allowance {state} chosen is-after is-first-a is-first-b is =
+      let total : n + m ≡ stepCount (both cs ds) = omega (arith, counted-a, counted-b) in
+      is ∙ rw (chosen, total, is-first-a, is-first-b)
+      (reportOf-after (both cs ds) allowance state (rw (chosen, total) at is-after))

@@ -11,9 +11,9 @@
 --     comparison-swap             a done report of B with A has the same gap, as a value
 --     comparison-start            and so has one of lists that start at other corners
 --     sides-swap, sides-start     and so have their sides: with the outlines exchanged A's is B's
--- For the code, by what reading the lists gives:
---     call-asks                       a list is taken: what the steps ask of the outline
---     call-unread-a, call-unread-b    A's list is refused; A's is taken and B's refused
+-- For the code, by what the checks of the lists give:
+--     call-asks                       a list is taken: what the steps ask of its corners
+--     call-refused-a, call-refused-b  A's list is refused; A's is taken and B's refused
 --     call-reported                   both are taken: what the call gives of the steps' report
 --     call-promises                   what it gives has both parts of its contract
 use Prim.Native.Nat.{ℕ}
@@ -24,7 +24,6 @@ use native.Mathlib.Omega.{arith}
 use lib.IntN.{ℤ}
 use Rattle.integers.specs.Fraction.{SameValue}
 use Rattle.plane.specs.declared.Corner.{Corner}
-use Rattle.outline.specs.declared.Reading.{Reading}
 use Rattle.outline.specs.declared.Refusal.{Refusal}
 use Rattle.outline.specs.declared.RefusedSide.{RefusedSide}
 use Rattle.outline.specs.declared.RefusedSide.the-variants.{Of}
@@ -34,17 +33,14 @@ use Rattle.outline.specs.declared.Verdict.{Verdict}
 use Rattle.outline.specs.declared.Verdict.the-variants as Verdict
 use Rattle.outline.specs.Conditions.{readingConditions, AcceptedList}
 use Rattle.outline.specs.Convex.{Accepted}
-use Rattle.outline.specs.code.Held.{IsOutline}
 use Rattle.outline.specs.Corners.{corners}
-use Rattle.outline.specs.code.Held.{cornersOf}
-use Rattle.outline.specs.code.Reading.{checks, check, reading}
+use Rattle.outline.specs.code.Reading.{checks, check}
 use Rattle.outline.specs.Refusal.{FirstFault}
 use Rattle.outline.proofs.EdgeLaws.{accepted-polygon}
-use Rattle.outline.proofs.Acceptance.{checks-decide, none-accepted}
+use Rattle.outline.proofs.Acceptance.{checks-decide, none-accepted, accepted}
 use Rattle.outline.proofs.ChecksLaws.{append-stops, append-goes-on}
 use Rattle.outline.proofs.ConditionLaws.{AllDecide, first-refused, first-taken}
 use Rattle.outline.proofs.ConditionLaws.{decide-append, none-append, fault-append}
-use Rattle.outline.proofs.ReadingLaws.{reading-outline, reading-cornersOf}
 use Rattle.nearest.proofs.Rotation.{startingAt, SamePiece, startingAt-piece}
 use Rattle.hausdorff.specs.declared.Done.{Done}
 use Rattle.hausdorff.specs.declared.Report.{Report}
@@ -66,17 +62,10 @@ pub both-accepted : (ps qs : List Corner) → Accepted ps → Accepted qs → Ac
 both-accepted ps qs ok-a ok-b A = ok-a
 both-accepted ps qs ok-a ok-b B = ok-b
 
--- a list that is read and taken, on either side
-module _ (whose : RefusedSide) (s : List ℤ) {o : Reading} (is-read : o ≡ reading whose s)
-    (taken : o .verdict ≡ Verdict.Taken) where
-  is-taken : check whose s ≡ Verdict.Taken
-  is-taken = rw is-read at taken
-
-  cornersOf-read : cornersOf (o .outline) ≡ corners s
-  cornersOf-read = rw is-read (reading-cornersOf whose s is-taken)
-
-  pub call-asks : IsOutline (o .outline)
-  call-asks = rw is-read (reading-outline whose s is-taken)
+-- a list that is checked and taken, on either side
+pub call-asks : (whose : RefusedSide) (s : List ℤ) {v : Verdict} → v ≡ check whose s → v ≡ Verdict.Taken
+    → Accepted (corners s)
+call-asks whose s is taken = accepted whose s .0 (sym is ∙ taken) .1
 
 module _ (s t : List ℤ) where
   decide : AllDecide (pairChecks s t) (pairConditions s t)
@@ -155,25 +144,22 @@ module _ (s t : List ℤ) (allowance : ℕ) where
   by-verdict : {v : Verdict} → checkPair s t ≡ v → comparisonFor s t allowance v ≡ comparison s t allowance
   by-verdict is = ap (comparisonFor s t allowance) (sym is)
 
-  module _ {o : Reading} (is-a : o ≡ reading (Of A) s) where
-    pub call-unread-a : {r : Refusal} → o .verdict ≡ Verdict.Refused r → Refused r ≡ comparison s t allowance
+  module _ {v : Verdict} (is-a : v ≡ check (Of A) s) where
+    pub call-refused-a : {r : Refusal} → v ≡ Verdict.Refused r → Refused r ≡ comparison s t allowance
     unfolding checkPair check
-    call-unread-a not-taken = by-verdict (append-stops (checks (Of A) s) (checks (Of B) t) (rw is-a at not-taken))
+    call-refused-a not-taken = by-verdict (append-stops (checks (Of A) s) (checks (Of B) t) (sym is-a ∙ not-taken))
 
-    module _ (taken-a : o .verdict ≡ Verdict.Taken) {q : Reading} (is-b : q ≡ reading (Of B) t) where
-      by-b : checkPair s t ≡ check (Of B) t
+    module _ (taken-a : v ≡ Verdict.Taken) {w : Verdict} (is-b : w ≡ check (Of B) t) where
+      by-b : {u : Verdict} → w ≡ u → checkPair s t ≡ u
       unfolding checkPair check
-      by-b = append-goes-on (checks (Of A) s) (checks (Of B) t) (is-taken (Of A) s is-a taken-a)
+      by-b is = append-goes-on (checks (Of A) s) (checks (Of B) t) (sym is-a ∙ taken-a) ∙ sym is-b ∙ is
 
-      pub call-unread-b : {r : Refusal} → q .verdict ≡ Verdict.Refused r → Refused r ≡ comparison s t allowance
-      call-unread-b not-taken = by-verdict (by-b ∙ rw is-b at not-taken)
+      pub call-refused-b : {r : Refusal} → w ≡ Verdict.Refused r → Refused r ≡ comparison s t allowance
+      call-refused-b not-taken = by-verdict (by-b not-taken)
 
-      pub call-reported : {r : Report} → q .verdict ≡ Verdict.Taken
-          → r ≡ report (both (cornersOf (o .outline)) (cornersOf (q .outline))) allowance
+      pub call-reported : {r : Report} → w ≡ Verdict.Taken → r ≡ report (both (corners s) (corners t)) allowance
           → Reported r ≡ comparison s t allowance
-      call-reported taken-b is =
-          let at-a = cornersOf-read (Of A) s is-a taken-a in let at-b = cornersOf-read (Of B) t is-b taken-b in
-          rw (is, at-a, at-b) (by-verdict (by-b ∙ is-taken (Of B) t is-b taken-b))
+      call-reported taken-b is = ap Reported is ∙ by-verdict (by-b taken-b)
 
 -- what the law says of a done report
 done-means : (s t : List ℤ) (k : ℕ) (d : Done) → IsComparison s t k (Reported (Report.Done d))

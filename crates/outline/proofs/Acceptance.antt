@@ -3,8 +3,8 @@
 --     check-refused        a list is refused exactly where a condition applies, with the refusal of the first that does
 --     check-taken          it is taken exactly where no condition applies
 --     none-accepted, accepted    that is: its length is even and the outline of its corners is accepted
---     range-taken, convex-taken    the checks 4 and 6 take exactly where all corners are in range; where they are
---                                  strictly convex
+--     range-taken          the check 4 takes exactly where all corners are in range
+--     convex-accepted      where the length is right and the corners are in range and strictly convex, all checks take
 use Prim.Native.Nat.{ℕ, _<_, _%_}
 use mathlib.Core.Path.{_≡_, refl}
 use mathlib.Core.Logic.{_↔_, Iff·trans, _≢_}
@@ -28,8 +28,11 @@ use Rattle.outline.specs.Conditions.{NotLeftOf, outOfRange, repeated, no
 use Rattle.outline.specs.Convex.{AllInRange, LeftOf, StrictlyConvex}
 use Rattle.outline.specs.Corners.{corners, corner, next, edge, fewest, most}
 use Rattle.outline.specs.code.Reading.{isOutOfRange, isRepeated, isNotLeft}
-use Rattle.outline.specs.code.Reading.{checkRange, checkRepeated, checkEdge, checkConvex, checks, check}
+use Rattle.outline.specs.code.Checks.{first}
+use Rattle.outline.specs.code.Reading.{checkRange, checkRepeated, checkEdge, checkConvex}
+use Rattle.outline.specs.code.Reading.{lengthChecks, checks, check}
 use Rattle.outline.specs.Refusal.{FirstFault}
+use Rattle.outline.proofs.ChecksLaws.{orElse-taken, refuseIf-taken}
 use Rattle.outline.proofs.EdgeLaws.{accepted-polygon, polygon-distinct}
 use Rattle.outline.proofs.ConditionLaws.{_and_, Decides, AllDecide, decides-taken, first-refused, first-taken}
 use Rattle.outline.proofs.ConditionLaws.{NoneApplies, nowhere-plain, lowest-none, nowhere-edge}
@@ -90,7 +93,7 @@ module _ (cs : List Corner) where
   unfolding checkConvex checkEdge
   convex-decides whose = edges-decide _ whose _ isNotLeft-true n
 
-  pub convex-taken : (whose : RefusedSide) → (checkConvex whose cs ≡ Taken) ↔ StrictlyConvex cs
+  convex-taken : (whose : RefusedSide) → (checkConvex whose cs ≡ Taken) ↔ StrictlyConvex cs
   unfolding checkConvex checkEdge
   convex-taken whose = Iff·trans (edges-taken _ whose _ isNotLeft-true n) (
     λ none e c e-below c-below not-start not-end.
@@ -124,22 +127,21 @@ module _ (whose : RefusedSide) (s : List ℤ) where
   abbrev cs : List Corner
   cs = corners s
 
+  -- the conditions that a list must escape: those of its length, 4 and 6
+  by-parts : ¬ (length s % 2 ≡ 1) → ¬ (length cs < fewest) → ¬ (most < length cs) → AllInRange cs → StrictlyConvex cs
+      → AcceptedList s
+  by-parts odd few many all convex =
+      (omega arith, record { at-least = omega arith; at-most = omega arith; in-range = all; convex = convex })
+
   pub none-accepted : NoneApplies (readingConditions whose s) ↔ AcceptedList s
   none-accepted = (there, back)
     where
       there : NoneApplies (readingConditions whose s) → AcceptedList s
       there (not-odd, (not-few, (not-many, (none-out, (none-repeated, (none-not-left, _)))))) =
-          let odd : ¬ (length s % 2 ≡ 1) = λ is. not-odd (Nowhere, (refl, is)) in
-          let few : ¬ (length cs < fewest) = λ is. not-few (Nowhere, (refl, is)) in
-          let many : ¬ (most < length cs) = λ is. not-many (Nowhere, (refl, is)) in (
-            omega arith,
-            record {
-              at-least = omega arith;
-              at-most = omega arith;
-              in-range = in-range cs .0 (lowest-none _ (outOfRange-true cs) _ .0 none-out);
-              convex = convex-taken cs whose .0 (decides-taken (convex-decides cs whose) .1 none-not-left);
-            },
-          )
+          by-parts (λ is. not-odd (Nowhere, (refl, is))) (λ is. not-few (Nowhere, (refl, is)))
+          (λ is. not-many (Nowhere, (refl, is)))
+          (in-range cs .0 (lowest-none _ (outOfRange-true cs) _ .0 none-out))
+          (convex-taken cs whose .0 (decides-taken (convex-decides cs whose) .1 none-not-left))
 
       back : AcceptedList s → NoneApplies (readingConditions whose s)
       back (even, ok) =
@@ -154,3 +156,14 @@ module _ (whose : RefusedSide) (s : List ℤ) where
 
   pub accepted : (check whose s ≡ Taken) ↔ AcceptedList s
   accepted = Iff·trans (check-taken whose s) none-accepted
+
+  -- three or more strictly convex corners have no equal neighbours, so 5 takes too
+  pub convex-accepted : first (lengthChecks whose s) ≡ Taken → AllInRange cs → StrictlyConvex cs → check whose s ≡ Taken
+  convex-accepted lengths all convex =
+      let (odd, rest) = orElse-taken _ _ .0 lengths in
+      let (few, last) = orElse-taken _ _ .0 rest in
+      let (many, _) = orElse-taken _ _ .0 last in
+      accepted .1 (by-parts (refuseIf-taken _ (test-eqb (length s % 2) 1) _ .0 odd)
+      (refuseIf-taken _ (test-ltb (length cs) fewest) _ .0 few)
+      (refuseIf-taken _ (test-ltb most (length cs)) _ .0 many)
+      all convex)

@@ -4,21 +4,26 @@
 --     cornersOf-held               the corners of a held list are the list
 --     held-outline                 an accepted list, held, is an outline
 --     length-cornersOf, cornersOf-corner    the corners of a value: the count says how many, and corner i is in place i
+--     Filling, fill-start, fill-on, fill-end    the loop that puts the corners of a list into the places: its
+--                                  invariant, at the start, after a turn and at the end
 --     length-mapped                for a value that a function is handed: what is known of its places is their
 --                                  number as tuples.
 --                                  `search length-mapped` finds that there are 256
-use Prim.Native.Nat.{ℕ, _+_, _-_, _<_, _≤_}
+use Prim.Native.Nat.{ℕ, suc, _+_, _-_, _<_, _≤_}
 use mathlib.Core.Path.{_≡_, sym, ap, _∙_}
-use mathlib.Core.List.{List, _++_, map}
+use mathlib.Core.List.{List, _++_, map, append-assoc}
+use native.Mathlib.Numerals.{add-one}
 use native.Mathlib.Omega.{arith}
-use lib.ListN.{length, getD, replicate, length-append, length-map, length-replicate, getD-replicate, List·getD-append}
-use lib.Seq.{getD-append-add, take-append-seam, length-take-le, getD-take}
+use lib.ListN.{length, getD, set, take, replicate, length-append, length-map, length-replicate, getD-replicate}
+use lib.ListN.{List·getD-append}
+use lib.Seq.{getD-append-add, take-append-seam, length-take-le, getD-take, set-at, take-suc, take-length}
 use Rattle.plane.specs.declared.Corner.{Corner}
 use Rattle.outline.specs.declared.Outline.{Outline}
 use Rattle.outline.specs.Convex.{Accepted}
 use Rattle.outline.specs.code.Held.{IsOutline}
 use Rattle.outline.specs.Corners.{corner, origin, most, held}
 use Rattle.outline.specs.code.Held.{cornersOf}
+use Rattle.outline.specs.code.Unfilled.{unfilled}
 
 module _ (cs : List Corner) where
   pub held-places : length cs ≤ most → length (held cs .corners) ≡ most
@@ -56,6 +61,50 @@ module _ (o : Outline) where
 
   pub cornersOf-corner : (i : ℕ) → i < o .count → corner (cornersOf o) i ≡ corner (o .corners) i
   cornersOf-corner i below = getD-take (o .count) (o .corners) i origin below
+
+-- the first i corners, and zeros after them
+abbrev filled : List Corner → ℕ → List Corner
+filled cs i = take i cs ++ replicate (most - i) origin
+
+-- the next corner is put into its place
+fill-next : (cs : List Corner) (i : ℕ) → i < length cs → i < most
+    → set (filled cs i) i (corner cs i) ≡ filled cs (i + 1)
+fill-next cs i below fits =
+    rw (more, add-one, take-suc cs i origin)
+    (set-at (take i cs) origin _ (corner cs i) i (length-take-le i cs (omega arith)) ∙ simp append-assoc)
+  where
+    more : most - i ≡ suc (most - (i + 1))
+    more = omega arith
+
+-- the first i corners of the list are in their places
+pub record Filling (cs : List Corner) (n : ℕ) (o : Outline) (i : ℕ) : Type 0 where
+  pub counted : n ≡ length cs
+  pub turn : i ≤ n
+  pub fits : n ≤ most
+  pub is : o ≡ record { count = n; corners = filled cs i }
+
+-- none is
+pub fill-start : {cs : List Corner} {n : ℕ} {o : Outline} → n ≡ length cs → length cs ≤ most
+    → o ≡ unfilled n → Filling cs n o 0
+fill-start counted fits is = record { counted = counted; turn = omega arith; fits = omega arith; is = is }
+
+module _ {cs : List Corner} {n i : ℕ} {o : Outline} (filling : Filling cs n o i) where
+  -- one more is put into its place
+  pub fill-on : {c : Corner} → i < n → c ≡ corner cs i
+      → Filling cs n (record { count = o .count; corners = set (o .corners) i c }) (i + 1)
+  fill-on below is-c = record {
+    counted = filling .counted;
+    turn = omega arith;
+    fits = filling .fits;
+    is = rw (filling .is, is-c, fill-next cs i (omega (arith, filling .counted)) (omega (arith, filling .fits)));
+  }
+
+  -- all are
+  pub fill-end : n ≤ i → o ≡ held cs
+  unfolding held
+  fill-end past =
+      let all : i ≡ length cs = omega (arith, filling .counted, filling .turn) in
+      filling .is ∙ rw (filling .counted, all, take-length)
 
 -- all arguments explicit, for `search`
 pub length-mapped : (X Y : Type 0) (f : X → Y) (l : List X) (n : ℕ) → length (map f l) ≡ n → length l ≡ n

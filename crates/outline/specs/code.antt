@@ -1,6 +1,7 @@
 -- For code and proofs alone.
 pub mod Polygon
 pub mod Held
+pub mod Unfilled
 pub mod Checks
 pub mod Turns
 pub mod Reading

@@ -1,3 +1,4 @@
 -- For code and proofs alone.
 pub mod Tests
 pub mod Range
+pub mod Turn

@@ -2,6 +2,7 @@
 ghost use mathlib.Core.Path.{_≡_};
 ghost use Rattle.plane.specs.Vector.{_⇀_, cross, dot};
 ghost use Rattle.plane.specs.code.Tests.{isLeft, isRight, same};
+ghost use Rattle.plane.specs.code.Turn.{turnsLeft};
 ghost use Rattle.integers.specs.Equal.{eqZ};
 ghost use Rattle.plane.specs.Point.{whole};
 ghost use Rattle.plane.specs.Range.{InRange};
@@ -77,6 +78,15 @@ pub fn squared_length(a: Vector) -> i64
     dot(a, a)
 }
 
+// Whether b turns strictly left of a: by less than half a turn.
+pub fn turns_left(a: Vector, b: Vector) -> bool
+    requires { ⌜ Span reach a ⌝ }
+    requires { ⌜ Span reach b ⌝ }
+    ensures { λ r. ⌜ r ≡ turnsLeft a b ⌝ }
+{
+    0 < cross(a, b)
+}
+
 // Whether v is strictly left of the line that starts at `from` and has the differences `run`.
 pub fn is_left(from: Corner, run: Vector, v: Corner) -> bool
     requires { ⌜ Span reach run ⌝ }
@@ -84,7 +94,7 @@ pub fn is_left(from: Corner, run: Vector, v: Corner) -> bool
     requires { ⌜ InRange v ⌝ }
     ensures { λ r. ⌜ r ≡ isLeft from run v ⌝ }
 {
-    0 < cross(run, difference(from, v))
+    turns_left(run, difference(from, v))
 }
 
 // Whether v is strictly right of that line.

@@ -1,2 +1,4 @@
 -- What the code of reading needs beside the definitions of `outline`.
 pub mod Edge
+pub mod Shape
+pub mod Visit

@@ -1,5 +1,5 @@
-// The checks of a list, in the order of rule 2.4. Each names the corner or edge that fails it first; `whose` is the
-// side that a refusal names.
+// The checks of a list, of which the first in the order of rule 2.4 stands. Each names the corner or edge that fails
+// it first; `whose` is the side that a refusal names.
 use crate::corners::corner;
 use crate::corners::count;
 use crate::corners::next;
@@ -20,7 +20,9 @@ ghost use Rattle.outline.specs.code.Checks.{first};
 ghost use Rattle.outline.specs.Convex.{AllInRange};
 ghost use Rattle.outline.specs.Corners.{corners};
 ghost use Rattle.reading.specs.Edge.{edgeOf, isNotLeftOf};
-ghost use Rattle.outline.specs.code.Turns.{keepsLeft, isConvex};
+ghost use Rattle.reading.specs.Shape.{checkShape};
+ghost use Rattle.reading.specs.Visit.{visitOf, InReach, keepsLeftBy};
+ghost use Rattle.outline.specs.code.Turns.{isConvex};
 ghost use Rattle.outline.specs.code.Reading.{isOutOfRange, isRepeated};
 ghost use Rattle.outline.specs.code.Reading.{lengthChecks, checkRange, checkRepeated, checkEdge, checkConvex, check};
 
@@ -157,8 +159,8 @@ fn check_edge(s: &[i32], whose: RefusedSide, e: usize) -> Verdict
     Verdict::Taken
 }
 
-// 6, by testing every corner against every edge.
-fn check_edges(s: &[i32], whose: RefusedSide) -> Verdict
+// 6: the first edge that some corner is not strictly left of, and the first such corner.
+fn check_convex(s: &[i32], whose: RefusedSide) -> Verdict
     requires { ⌜ AllInRange (corners (now s)) ⌝ }
     ensures { λ r. ⌜ r ≡ checkConvex whose (corners (now (s .entry))) ⌝ }
 {
@@ -173,28 +175,57 @@ fn check_edges(s: &[i32], whose: RefusedSide) -> Verdict
     Verdict::Taken
 }
 
-// Whether v, the corner after p and q, is strictly left of edge 0, which starts at `from`, of the line from there
-// to q, and of p to q.
-fn keeps_left(from: Corner, run: Vector, p: Corner, q: Corner, v: Corner) -> bool
-    requires { ⌜ Span reach run ⌝ }
-    requires { ⌜ InRange from ⌝ }
-    requires { ⌜ InRange p ⌝ }
-    requires { ⌜ InRange q ⌝ }
-    requires { ⌜ InRange v ⌝ }
-    ensures { λ r. ⌜ r ≡ keepsLeft from run p q v ⌝ }
+// 5 and then 6.
+fn check_shape(s: &[i32], whose: RefusedSide) -> Verdict
+    requires { ⌜ AllInRange (corners (now s)) ⌝ }
+    ensures { λ r. ⌜ r ≡ checkShape whose (corners (now (s .entry))) ⌝ }
 {
-    if !plane::is_left(from, run, v) {
-        return false;
+    if let Verdict::Refused(refusal) = check_repeated(s, whose) {
+        return Verdict::Refused(refusal);
     }
-    if !plane::is_left(from, plane::difference(from, q), v) {
-        return false;
-    }
-    plane::is_left(p, plane::difference(p, q), v)
+    check_convex(s, whose)
 }
 
-// Whether the corners are strictly convex, in one pass: `check_convex` takes linear time where they are, and every
-// accepted outline is. Without an edge 0 there is nothing to test. It is right because any three corners, in number
-// order, turn left where each corner keeps left (`outline/proofs/TurnsLaws.antt`).
+// A corner that the pass over the corners visits: where it is, and the differences to it from corner 0 and from the
+// corner before.
+struct Visit {
+    corner: Corner,
+    diagonal: Vector,
+    edge: Vector,
+}
+
+// The visit of the corner `to`, which comes after `from`; `apex` is corner 0.
+fn visit_of(apex: Corner, from: Corner, to: Corner) -> Visit
+    ensures { λ r. ⌜ r ≡ visitOf apex from to ⌝ }
+{
+    Visit {
+        corner: to,
+        diagonal: plane::difference(apex, to),
+        edge: plane::difference(from, to),
+    }
+}
+
+// Whether the corner visited is strictly left of edge 0, whose differences are `run`, of the line from corner 0 to the
+// corner before, and of the edge to that corner, whose visit is `last`.
+fn keeps_left_by(run: Vector, last: Visit, visit: Visit) -> bool
+    requires { ⌜ Span reach run ⌝ }
+    requires { ⌜ InReach last ⌝ }
+    requires { ⌜ InReach visit ⌝ }
+    ensures { λ r. ⌜ r ≡ keepsLeftBy run last visit ⌝ }
+{
+    if !plane::turns_left(run, visit.diagonal) {
+        return false;
+    }
+    if !plane::turns_left(last.diagonal, visit.diagonal) {
+        return false;
+    }
+    plane::turns_left(last.edge, visit.edge)
+}
+
+// Whether the corners are strictly convex, in one pass that takes each corner out of the list once: `check` takes
+// linear time where they are, and every accepted outline is. Without an edge 0 there is nothing to test. It is right
+// because any three corners, in number order, turn left where each corner keeps left
+// (`outline/proofs/TurnsLaws.antt`).
 fn is_convex(s: &[i32]) -> bool
     requires { ⌜ AllInRange (corners (now s)) ⌝ }
     ensures { λ r. ⌜ r ≡ isConvex (corners (now (s .entry))) ⌝ }
@@ -203,31 +234,23 @@ fn is_convex(s: &[i32]) -> bool
     if n < 2 {
         return true;
     }
-    let from = corner(s, 0);
-    let run = plane::difference(from, corner(s, 1));
-    let mut i = 0;
-    while i + 2 < n {
-        if !keeps_left(from, run, corner(s, i), corner(s, i + 1), corner(s, i + 2)) {
+    let apex = corner(s, 0);
+    let mut last = visit_of(apex, apex, corner(s, 1));
+    let run = last.diagonal;
+    let mut k = 2;
+    while k < n {
+        let visit = visit_of(apex, last.corner, corner(s, k));
+        if !keeps_left_by(run, last, visit) {
             return false;
         }
-        i += 1;
+        last = visit;
+        k += 1;
     }
     true
 }
 
-// 6: the first edge that some corner is not strictly left of, and the first such corner.
-fn check_convex(s: &[i32], whose: RefusedSide) -> Verdict
-    requires { ⌜ AllInRange (corners (now s)) ⌝ }
-    ensures { λ r. ⌜ r ≡ checkConvex whose (corners (now (s .entry))) ⌝ }
-{
-    if is_convex(s) {
-        Verdict::Taken
-    } else {
-        check_edges(s, whose)
-    }
-}
-
-// All checks of a list: what the first that refuses answers.
+// All checks of a list: what the first that refuses answers. Three or more strictly convex corners have no equal
+// neighbours, and fewer get 2: so 5 and 6 are looked for only where the corners are not strictly convex.
 pub fn check(s: &[i32], whose: RefusedSide) -> Verdict
     ensures { λ r. ⌜ r ≡ check whose (now (s .entry)) ⌝ }
 {
@@ -237,8 +260,8 @@ pub fn check(s: &[i32], whose: RefusedSide) -> Verdict
     if let Verdict::Refused(refusal) = check_range(s, whose) {
         return Verdict::Refused(refusal);
     }
-    if let Verdict::Refused(refusal) = check_repeated(s, whose) {
-        return Verdict::Refused(refusal);
+    if is_convex(s) {
+        return Verdict::Taken;
     }
-    check_convex(s, whose)
+    check_shape(s, whose)
 }

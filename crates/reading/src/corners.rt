@@ -6,6 +6,7 @@ ghost use mathlib.Core.Path.{_≡_};
 ghost use Prim.Native.Nat.{_<_, _≤_};
 ghost use lib.ListN.{length};
 ghost use Rattle.outline.specs.Corners.{corners, corner, next, previous, held, most};
+ghost use Rattle.outline.specs.code.Unfilled.{unfilled};
 
 // How many corners a list gives.
 pub fn count(s: &[i32]) -> usize
@@ -41,20 +42,27 @@ pub fn previous(n: usize, i: usize) -> usize
     if i == 0 { n - 1 } else { i - 1 }
 }
 
+// A value for an outline of n corners, all its places zero.
+pub fn unfilled(n: usize) -> Outline
+    ensures { λ r. ⌜ r ≡ unfilled n ⌝ }
+{
+    Outline {
+        count: n,
+        corners: [Corner { x: 0, y: 0 }; MOST],
+    }
+}
+
 // The outline with the corners of a list.
 pub fn held(s: &[i32]) -> Outline
     requires { ⌜ length (corners (now s)) ≤ most ⌝ }
     ensures { λ r. ⌜ r ≡ held (corners (now (s .entry))) ⌝ }
 {
     let n = count(s);
-    let mut places = [Corner { x: 0, y: 0 }; MOST];
+    let mut outline = unfilled(n);
     let mut i = 0;
     while i < n {
-        places[i] = corner(s, i);
+        outline.corners[i] = corner(s, i);
         i += 1;
     }
-    Outline {
-        count: n,
-        corners: places,
-    }
+    outline
 }

@@ -21,12 +21,9 @@ use Rattle.integers.proofs.Order.{ltZ-true, ltZ-false, <ℤ-trans, ≤ℤ-trans
 use Rattle.integers.proofs.Reflect.{test-eqZ, test-false}
 use Rattle.plane.specs.declared.Corner.{Corner}
 use Rattle.plane.proofs.Algebra.{side-start}
-use Rattle.outline.specs.declared.Outline.{Outline}
 use Rattle.outline.specs.code.Polygon.{Polygon}
 use Rattle.outline.specs.Corners.{corner, next}
-use Rattle.outline.specs.code.Held.{cornersOf}
 use Rattle.outline.proofs.CornersLaws.{next-next-other}
-use Rattle.outline.proofs.HeldLaws.{cornersOf-corner}
 use Rattle.outline.specs.declared.Side.{Side}
 use Rattle.hausdorff.specs.declared.WorstSoFar.the-variants.{None}
 use Rattle.hausdorff.specs.Pair.{Pair}
@@ -114,27 +111,22 @@ pub record Searching (cs : List Corner) (found i : ℕ) : Type 0 where
 pub search-start : {cs : List Corner} → 1 ≤ length cs → Searching cs 0 1
 search-start some = record { turn = some; known = omega arith; lowest = below-more _ 0 (below-none _) (not-after-refl _) }
 
-module _ (o : Outline) {found i : ℕ} (counted : o .count ≡ length (cornersOf o)) (below : i < o .count)
-    (searching : Searching (cornersOf o) found i) where
-  -- the corners that are compared are read from the places of the outline's value
-  read : isLower (corner (o .corners) i) (corner (o .corners) found) ≡ isLower (corner (cornersOf o) i) (corner (cornersOf o) found)
-  read = rw (cornersOf-corner o i below, cornersOf-corner o found (omega arith))
-
+module _ {cs : List Corner} {found i : ℕ} (below : i < length cs) (searching : Searching cs found i) where
   -- corner i is not after `found`, so it is after none of those that `found` is not after
-  pub search-lower : isLower (corner (o .corners) i) (corner (o .corners) found) ≡ true → Searching (cornersOf o) i (i + 1)
+  pub search-lower : isLower (corner cs i) (corner cs found) ≡ true → Searching cs i (i + 1)
   search-lower holds = record {
     turn = omega arith;
     known = omega arith;
-    lowest = below-more _ i (λ j passed. not-after-trans _ _ _ (lower-test _ _ true (sym read ∙ holds)) (searching .lowest j passed))
+    lowest = below-more _ i (λ j passed. not-after-trans _ _ _ (lower-test _ _ true holds) (searching .lowest j passed))
         (not-after-refl _);
   }
 
   -- `found` is not after corner i either
-  pub search-on : isLower (corner (o .corners) i) (corner (o .corners) found) ≡ false → Searching (cornersOf o) found (i + 1)
+  pub search-on : isLower (corner cs i) (corner cs found) ≡ false → Searching cs found (i + 1)
   search-on fails = record {
     turn = omega arith;
     known = omega arith;
-    lowest = below-more _ i (searching .lowest) (lower-test _ _ false (sym read ∙ fails));
+    lowest = below-more _ i (searching .lowest) (lower-test _ _ false fails);
   }
 
 pub search-end : {cs : List Corner} {found i : ℕ} → Searching cs found i → length cs ≤ i → LowestLeftmost cs found

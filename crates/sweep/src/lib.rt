@@ -2,14 +2,15 @@
 use hausdorff::WorstSoFar;
 use measuring::LocalFeature;
 use measuring::Window;
-use outline::Outline;
 use outline::Side;
 use plane::Corner;
+use reading::corners::corner;
+use reading::corners::count;
 use reading::corners::next;
 ghost use mathlib.Core.Path.{_≡_};
 ghost use Prim.Native.Nat.{suc, _<_};
-ghost use Rattle.outline.specs.code.Held.{IsOutline};
-ghost use Rattle.outline.specs.code.Held.{cornersOf};
+ghost use lib.ListN.{length};
+ghost use Rattle.outline.specs.Corners.{corners};
 ghost use Rattle.hausdorff.specs.code.Lowest.{LowestLeftmost};
 ghost use Rattle.sweep.specs.State.{IsAfter, CanStep, isLower, beginning};
 ghost use Rattle.sweep.specs.State.{Measurable, BoundedState, Passable, bIsNext, advanced, passed};
@@ -130,8 +131,8 @@ impl State {
     }
 
     // Rule 5.5: a step first measures and then passes the next edge. `a` and `b` are the windows at the support
-    // corners. From the sweep after k steps it gives that after k + 1, which is the definition's step (`after-step`
-    // in `hausdorff`).
+    // corners. From the sweep after k steps it gives that after k + 1, which is the definition's step (`step-after`
+    // in `proofs/StepLaws.antt`).
     pub fn step(self, a: Window, b: Window) -> State
         requires { ⌜ CanStep self a b ⌝ }
         ensures { λ r. ⌜ ((can : CanStep self a b) → IsAfter (can .pair) (suc (can .steps)) r) ⌝ }
@@ -153,16 +154,17 @@ fn is_lower(p: Corner, q: Corner) -> bool
     if p.y == q.y { p.x < q.x } else { p.y < q.y }
 }
 
-// The number of the lowest corner, of several the leftmost: there the outline's first edge in the angular order starts.
-pub fn lowest(o: Outline) -> usize
-    requires { ⌜ IsOutline o ⌝ }
-    ensures { λ r. ⌜ LowestLeftmost (cornersOf o) r ⌝ }
+// The number of the lowest corner of a list, of several the leftmost: where the list is accepted, its outline's first
+// edge in the angular order starts there.
+pub fn lowest(s: &[i32]) -> usize
+    requires { ⌜ 0 < length (corners (now s)) ⌝ }
+    ensures { λ r. ⌜ LowestLeftmost (corners (now (s .entry))) r ⌝ }
 {
-    let n = o.count;
+    let n = count(s);
     let mut found = 0;
     let mut i = 1;
     while i < n {
-        if is_lower(o.corners[i], o.corners[found]) {
+        if is_lower(corner(s, i), corner(s, found)) {
             found = i;
         }
         i += 1;

@@ -41,6 +41,10 @@ greatestDigest cs points = fold greater 0 (λ i. digestAt cs (corner points i)) 
 unfoldable pub timingCore : List ℤ → List ℤ → ℕ
 timingCore s points = ifTaken (reading NoSide s .verdict) (greatestDigest (corners s) (corners points)) 0
 
--- how many corners are read from a list; 0 where it is refused
-abbrev pub timingRead : List ℤ → ℕ
-timingRead s = reading NoSide s .outline .count
+-- the lesser of x and y
+abbrev pub lesserCoordinate : Corner → ℤ
+lesserCoordinate v = cond (ltZ (v .x) (v .y)) (v .x) (v .y)
+
+-- that of what is in place k of the outline read from a list; 0 where the list is refused or there is no place k
+abbrev pub timingRead : List ℤ → ℕ → ℤ
+timingRead s k = lesserCoordinate (corner (reading NoSide s .outline .corners) k)

@@ -1,6 +1,7 @@
 // The parts of a call that the benchmarks under bench/ time apart. C programs link them beside the library
 // `ravinebowl`.
 use nearest::NearestPoint;
+use outline::MOST;
 use outline::Outline;
 use outline::RefusedSide;
 use outline::Verdict;
@@ -12,7 +13,7 @@ ghost use Rattle.outline.specs.code.Held.{IsOutline};
 ghost use Rattle.outline.specs.Corners.{corners};
 ghost use Rattle.outline.specs.code.Held.{cornersOf};
 ghost use Rattle.timing.specs.Answers.{greater, isAboveDiagonal, digest, digestAt, greatestDigest};
-ghost use Rattle.timing.specs.Answers.{timingCore, timingRead};
+ghost use Rattle.timing.specs.Answers.{timingCore, lesserCoordinate, timingRead};
 
 fn greater(a: u64, b: u64) -> u64
     ensures { λ r. ⌜ r ≡ greater a b ⌝ }
@@ -77,11 +78,22 @@ pub extern "C" fn timing_core(s: &[i32], points: &[i32]) -> u64
     greatest_digest(reading.outline, points)
 }
 
-// Reading an outline. Answers how many corners it has, or 0 where it is refused.
+fn lesser_coordinate(v: Corner) -> i32
+    ensures { λ r. ⌜ r ≡ lesserCoordinate v ⌝ }
+{
+    if v.x < v.y { v.x } else { v.y }
+}
+
+// Reading an outline. Answers the lesser coordinate of what is in place k of the outline read: 0 where the list is
+// refused or k is 256 or more. Only the caller knows k, so no corner can be left out.
 #[no_mangle]
-pub extern "C" fn timing_read(s: &[i32]) -> usize
-    ensures { λ r. ⌜ r ≡ timingRead (now (s .entry)) ⌝ }
+pub extern "C" fn timing_read(s: &[i32], k: usize) -> i32
+    ensures { λ r. ⌜ r ≡ timingRead (now (s .entry)) k ⌝ }
 {
     let reading = reading::read(s, RefusedSide::NoSide);
-    reading.outline.count
+    if k >= MOST {
+        return 0;
+    }
+    let outline = reading.outline;
+    lesser_coordinate(outline.corners[k])
 }

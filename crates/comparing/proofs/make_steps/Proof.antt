@@ -1,130 +1,179 @@
--- `comparing::make_steps` begins at the lowest corners and makes the steps, each with what is read at the support
--- corners.
+-- `comparing::make_steps` fills the two outlines, begins at the lowest corners and makes the steps, each with what is
+-- read at the support corners.
+use borrow.Author.Needs.{needs}
 use Prim.Native.Nat.{_-_}
 use native.Mathlib.Omega.{arith}
-use Rattle.outline.proofs.HeldLaws.{length-mapped}
+use Rattle.outline.specs.Corners.{corners}
+use Rattle.outline.proofs.HeldLaws.{Filling, fill-start, fill-on, fill-end}
 use Rattle.outline.proofs.CornersLaws.{before-below, after-below}
 use Rattle.comparing.proofs.CompareLaws.{window-read, Running, run-begins, run-can-step, run-on, run-ends}
 use Rattle.comparing.proofs.make_steps.Statement.{statement}
 use Rattle.comparing.proofs.make_steps.Tie as tie
 
 abbrev Inv-loop : tie.InvT-loop
-Inv-loop steps a b n m state₀ k₀ state k = Running a b steps k state
+Inv-loop s t steps n m a₀ i₀ a i = Filling (corners s) n a i
 
 abbrev μ-loop : tie.MeasureT-loop
-μ-loop steps a b n m state₀ k₀ state k = steps - k
+μ-loop s t steps n m a₀ i₀ a i = n - i
 
-lowest-requires : tie.Need-lowest-requires Inv-loop μ-loop
-lowest-requires c κs = c .pre .0
+abbrev Inv-loop2 : tie.InvT-loop2
+Inv-loop2 s t steps n m a i b₀ j₀ b j = Filling (corners t) m b j
 
-lowest-requires-2 : tie.Need-lowest-requires-2 Inv-loop μ-loop
-lowest-requires-2 c κs = c .before .before .pre .1 .0
+abbrev μ-loop2 : tie.MeasureT-loop2
+μ-loop2 s t steps n m a i b₀ j₀ b j = m - j
 
-loop-holds : tie.Need-loop-holds Inv-loop μ-loop
+abbrev Inv-loop3 : tie.InvT-loop3
+Inv-loop3 s t steps n m a i b j state₀ k₀ state k = Running (corners s) (corners t) n m a b steps k state
+
+abbrev μ-loop3 : tie.MeasureT-loop3
+μ-loop3 s t steps n m a i b j state₀ k₀ state k = steps - k
+
+loop-holds : tie.Need-loop-holds Inv-loop μ-loop Inv-loop2 μ-loop2 Inv-loop3 μ-loop3
 loop-holds c =
-    let start = c .before .before .before .before in
+    let start = c .before .before .before in
+    fill-start (c .before .before .count .ensures) (start .pre .0 .at-most) (c .unfilled .ensures)
+
+loop-again : tie.Need-loop-again Inv-loop μ-loop Inv-loop2 μ-loop2 Inv-loop3 μ-loop3
+loop-again c = fill-on (c .before .before .loop .inv) (c .before .loop-test .taken) (c .corner .ensures)
+
+loop2-holds : tie.Need-loop2-holds Inv-loop μ-loop Inv-loop2 μ-loop2 Inv-loop3 μ-loop3
+loop2-holds c =
+    let counted = c .before .before .before .before in
+    fill-start (counted .count2 .ensures) (counted .before .before .pre .1 .0 .at-most) (c .unfilled2 .ensures)
+
+loop2-again : tie.Need-loop2-again Inv-loop μ-loop Inv-loop2 μ-loop2 Inv-loop3 μ-loop3
+loop2-again c = fill-on (c .before .before .loop2 .inv) (c .before .loop2-test .taken) (c .corner2 .ensures)
+
+lowest-requires : tie.Need-lowest-requires Inv-loop μ-loop Inv-loop2 μ-loop2 Inv-loop3 μ-loop3
+lowest-requires c κs =
+    let start = c .before .before .before .before .before .before .before .before in
+    omega (arith, start .pre .0 .at-least)
+
+lowest-requires-2 : tie.Need-lowest-requires-2 Inv-loop μ-loop Inv-loop2 μ-loop2 Inv-loop3 μ-loop3
+lowest-requires-2 c κs =
+    let start = c .before .before .before .before .before .before .before .before .before .before in
+    omega (arith, start .pre .1 .0 .at-least)
+
+loop3-holds : tie.Need-loop3-holds Inv-loop μ-loop Inv-loop2 μ-loop2 Inv-loop3 μ-loop3
+loop3-holds c =
+    let filled-b = c .before .before .before .before in
+    let filled-a = filled-b .before .before .before in
+    let counted = filled-a .before .before .before in
+    let start = counted .before .before in
     rw (c .before .before .beginning .ensures, c .beginning2 .ensures)
-    (run-begins (start .pre .0) (start .pre .1 .0) (search length-mapped) (search length-mapped) (start .pre .1 .1)
+    (run-begins (start .pre .0) (start .pre .1 .0)
+    (fill-end (filled-a .before .loop .inv) (omega arith)) (fill-end (filled-b .before .loop2 .inv) (omega arith))
+    (counted .before .count .ensures) (counted .count2 .ensures) (start .pre .1 .1)
     (c .before .before .before .lowest .ensures) (c .before .lowest2 .ensures))
 
-previous-requires-2 : tie.Need-previous-requires-2 Inv-loop μ-loop
+previous-requires-2 : tie.Need-previous-requires-2 Inv-loop μ-loop Inv-loop2 μ-loop2 Inv-loop3 μ-loop3
 previous-requires-2 c κs = omega arith
 
-element-copy-out-t29 : tie.Need-element-copy-out-t29 Inv-loop μ-loop
-element-copy-out-t29 c = omega (arith, before-below (c .previous2 .ensures) (previous-requires-2 (c .before) tt))
+element-copy-out-t40 : tie.Need-element-copy-out-t40 Inv-loop μ-loop Inv-loop2 μ-loop2 Inv-loop3 μ-loop3
+element-copy-out-t40 c = omega (arith, before-below (c .previous2 .ensures) (previous-requires-2 (c .before) tt))
 
-mul-t26 : tie.Need-mul-t26 Inv-loop μ-loop
-mul-t26 c = omega (arith, element-copy-out-t29 c)
+mul-t37 : tie.Need-mul-t37 Inv-loop μ-loop Inv-loop2 μ-loop2 Inv-loop3 μ-loop3
+mul-t37 c = omega (arith, element-copy-out-t40 c)
 
-next-requires-2 : tie.Need-next-requires-2 Inv-loop μ-loop
+next-requires-2 : tie.Need-next-requires-2 Inv-loop μ-loop Inv-loop2 μ-loop2 Inv-loop3 μ-loop3
 next-requires-2 c κs = omega arith
 
-element-copy-out-t46 : tie.Need-element-copy-out-t46 Inv-loop μ-loop
-element-copy-out-t46 c = omega (arith, after-below (c .next2 .ensures) (next-requires-2 (c .before) tt))
+element-copy-out-t57 : tie.Need-element-copy-out-t57 Inv-loop μ-loop Inv-loop2 μ-loop2 Inv-loop3 μ-loop3
+element-copy-out-t57 c = omega (arith, after-below (c .next2 .ensures) (next-requires-2 (c .before) tt))
 
-mul-t43 : tie.Need-mul-t43 Inv-loop μ-loop
-mul-t43 c = omega (arith, element-copy-out-t46 c)
+mul-t54 : tie.Need-mul-t54 Inv-loop μ-loop Inv-loop2 μ-loop2 Inv-loop3 μ-loop3
+mul-t54 c = omega (arith, element-copy-out-t57 c)
 
-previous-requires-4 : tie.Need-previous-requires-4 Inv-loop μ-loop
+previous-requires-4 : tie.Need-previous-requires-4 Inv-loop μ-loop Inv-loop2 μ-loop2 Inv-loop3 μ-loop3
 previous-requires-4 c κs = omega arith
 
-element-copy-out-t46-2 : tie.Need-element-copy-out-t46-2 Inv-loop μ-loop
-element-copy-out-t46-2 c = omega (arith, before-below (c .previous4 .ensures) (previous-requires-4 (c .before) tt))
+element-copy-out-t57-2 : tie.Need-element-copy-out-t57-2 Inv-loop μ-loop Inv-loop2 μ-loop2 Inv-loop3 μ-loop3
+element-copy-out-t57-2 c = omega (arith, before-below (c .previous4 .ensures) (previous-requires-4 (c .before) tt))
 
-mul-t26-2 : tie.Need-mul-t26-2 Inv-loop μ-loop
-mul-t26-2 c = omega (arith, element-copy-out-t46-2 c)
+mul-t37-2 : tie.Need-mul-t37-2 Inv-loop μ-loop Inv-loop2 μ-loop2 Inv-loop3 μ-loop3
+mul-t37-2 c = omega (arith, element-copy-out-t57-2 c)
 
-next-requires-4 : tie.Need-next-requires-4 Inv-loop μ-loop
+next-requires-4 : tie.Need-next-requires-4 Inv-loop μ-loop Inv-loop2 μ-loop2 Inv-loop3 μ-loop3
 next-requires-4 c κs = omega arith
 
-element-copy-out-t29-2 : tie.Need-element-copy-out-t29-2 Inv-loop μ-loop
-element-copy-out-t29-2 c = omega (arith, after-below (c .next4 .ensures) (next-requires-4 (c .before) tt))
+element-copy-out-t40-2 : tie.Need-element-copy-out-t40-2 Inv-loop μ-loop Inv-loop2 μ-loop2 Inv-loop3 μ-loop3
+element-copy-out-t40-2 c = omega (arith, after-below (c .next4 .ensures) (next-requires-4 (c .before) tt))
 
-mul-t43-2 : tie.Need-mul-t43-2 Inv-loop μ-loop
-mul-t43-2 c = omega (arith, element-copy-out-t29-2 c)
+mul-t54-2 : tie.Need-mul-t54-2 Inv-loop μ-loop Inv-loop2 μ-loop2 Inv-loop3 μ-loop3
+mul-t54-2 c = omega (arith, element-copy-out-t40-2 c)
 
-step-requires : tie.Need-step-requires Inv-loop μ-loop
+step-requires : tie.Need-step-requires Inv-loop μ-loop Inv-loop2 μ-loop2 Inv-loop3 μ-loop3
 step-requires c κs =
     let read-a = c .before .before .before .before .before .before .before .before .before in
     let turn = read-a .before .before .before .before .before .before .before .before .before in
-    let inv = turn .before .loop .inv in
+    let inv = turn .before .loop3 .inv in
     let far-b = c .before .before .before .before .before .before in
     let far-a = read-a .before .before .before .before .before .before in
-    run-can-step inv (turn .loop-test .taken)
-    (window-read _ (inv .counted-a) (inv .neighbours-a .known) (far-a .before .before .previous .ensures) (far-a .previous2 .ensures)
-    (far-a .before .next .ensures) (read-a .before .next2 .ensures))
-    (window-read _ (inv .counted-b) (inv .neighbours-b .known) (far-b .before .before .previous3 .ensures) (far-b .previous4 .ensures)
-    (far-b .before .next3 .ensures) (c .before .next4 .ensures))
+    run-can-step inv (turn .loop3-test .taken)
+    (window-read _ (inv .holds-a) (inv .counted-a) (inv .neighbours-a .known)
+    (far-a .before .before .previous .ensures) (far-a .previous2 .ensures) (far-a .before .next .ensures)
+    (read-a .before .next2 .ensures))
+    (window-read _ (inv .holds-b) (inv .counted-b) (inv .neighbours-b .known)
+    (far-b .before .before .previous3 .ensures) (far-b .previous4 .ensures) (far-b .before .next3 .ensures)
+    (c .before .next4 .ensures))
 
-add-k : tie.Need-add-k Inv-loop μ-loop
+add-k : tie.Need-add-k Inv-loop μ-loop Inv-loop2 μ-loop2 Inv-loop3 μ-loop3
 add-k c =
     let read-a = c .before .before .before .before .before .before .before .before .before .before in
     let turn = read-a .before .before .before .before .before .before .before .before .before in
-    omega (arith, turn .loop-test .taken, turn .before .loop .inv)
+    omega (arith, turn .loop3-test .taken, turn .before .loop3 .inv)
 
-loop-less : tie.Need-loop-less Inv-loop μ-loop
-loop-less c =
+loop3-less : tie.Need-loop3-less Inv-loop μ-loop Inv-loop2 μ-loop2 Inv-loop3 μ-loop3
+loop3-less c =
     let read-a = c .before .before .before .before .before .before .before .before .before .before in
     let turn = read-a .before .before .before .before .before .before .before .before .before in
-    omega (arith, turn .loop-test .taken, turn .before .loop .inv)
+    omega (arith, turn .loop3-test .taken, turn .before .loop3 .inv)
 
-loop-again : tie.Need-loop-again Inv-loop μ-loop
+loop3-again : tie.Need-loop3-again Inv-loop μ-loop Inv-loop2 μ-loop2 Inv-loop3 μ-loop3
 unfolding step-requires run-can-step
-loop-again c =
+loop3-again c =
     let read-a = c .before .before .before .before .before .before .before .before .before .before in
     let turn = read-a .before .before .before .before .before .before .before .before .before in
-    run-on (turn .before .loop .inv) (turn .loop-test .taken) (c .step .ensures (step-requires (c .before) tt))
+    run-on (turn .before .loop3 .inv) (turn .loop3-test .taken) (c .step .ensures (step-requires (c .before) tt))
 
-returns : tie.Need-returns Inv-loop μ-loop
-returns c = run-ends (c .before .loop .inv) (omega arith)
+returns : tie.Need-returns Inv-loop μ-loop Inv-loop2 μ-loop2 Inv-loop3 μ-loop3
+returns c = run-ends (c .before .loop3 .inv) (omega arith)
 
 pub make-steps-spec : {M : Type 1} → statement M
 make-steps-spec =
     tie.close
-    (tie.spec Inv-loop μ-loop
+    (tie.spec Inv-loop μ-loop Inv-loop2 μ-loop2 Inv-loop3 μ-loop3
+    (search needs) (search needs) (search needs)
+    loop-holds
+    (omega arith) (omega arith) (omega arith) (omega arith) (omega arith)
+    loop-again
+    (search needs)
+    loop2-holds
+    (omega arith) (omega arith) (omega arith) (omega arith) (omega arith)
+    loop2-again
     lowest-requires
     (λ _ _. tt)
     lowest-requires-2
     (λ _ _. tt)
-    loop-holds
+    loop3-holds
     (omega arith) (omega arith)
     previous-requires-2
-    mul-t26
-    element-copy-out-t29
+    mul-t37
+    element-copy-out-t40
     (omega arith) (omega arith) (omega arith) (omega arith) (omega arith) (omega arith)
     next-requires-2
-    mul-t43
-    element-copy-out-t46
+    mul-t54
+    element-copy-out-t57
     (omega arith) (omega arith)
     previous-requires-4
-    mul-t26-2
-    element-copy-out-t46-2
+    mul-t37-2
+    element-copy-out-t57-2
     (omega arith) (omega arith) (omega arith) (omega arith) (omega arith) (omega arith)
     next-requires-4
-    mul-t43-2
-    element-copy-out-t29-2
+    mul-t54-2
+    element-copy-out-t40-2
     step-requires
     add-k
-    loop-less
-    loop-again
+    loop3-less
+    loop3-again
     returns)

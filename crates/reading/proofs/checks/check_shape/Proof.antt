@@ -1,0 +1,14 @@
+-- `reading::checks::check_shape` makes the two checks in order.
+use borrow.Author.Needs.{needs}
+use Rattle.outline.proofs.ChecksLaws.{first-stops, first-goes-on, first-last}
+use Rattle.reading.proofs.checks.check_shape.Statement.{statement}
+use Rattle.reading.proofs.checks.check_shape.Tie as tie
+
+ruleset in-order = (first-stops, first-goes-on, first-last)
+
+pub check-shape-spec : {M : Type 1} → statement M
+check-shape-spec =
+    tie.close
+    (tie.spec
+    (λ c κs. search needs) (search needs) (λ c. search in-order)
+    (search needs) (λ c κs. search needs) (λ c. search in-order))
