@@ -127,7 +127,7 @@ module _ (whose : RefusedSide) (s : List ℤ) where
   abbrev cs : List Corner
   cs = corners s
 
-  -- the conditions that a list must escape: those of its length, 4 and 6
+  -- a list to which none of 1, 2, 3, 4 and 6 applies
   by-parts : ¬ (length s % 2 ≡ 1) → ¬ (length cs < fewest) → ¬ (most < length cs) → AllInRange cs → StrictlyConvex cs
       → AcceptedList s
   by-parts odd few many all convex =

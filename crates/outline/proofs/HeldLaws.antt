@@ -83,13 +83,13 @@ pub record Filling (cs : List Corner) (n : ℕ) (o : Outline) (i : ℕ) : Type 0
   pub fits : n ≤ most
   pub is : o ≡ record { count = n; corners = filled cs i }
 
--- none is
+-- a value whose places are all zero has no corner yet
 pub fill-start : {cs : List Corner} {n : ℕ} {o : Outline} → n ≡ length cs → length cs ≤ most
     → o ≡ unfilled n → Filling cs n o 0
 fill-start counted fits is = record { counted = counted; turn = omega arith; fits = omega arith; is = is }
 
 module _ {cs : List Corner} {n i : ℕ} {o : Outline} (filling : Filling cs n o i) where
-  -- one more is put into its place
+  -- a turn puts the next corner into its place
   pub fill-on : {c : Corner} → i < n → c ≡ corner cs i
       → Filling cs n (record { count = o .count; corners = set (o .corners) i c }) (i + 1)
   fill-on below is-c = record {
@@ -99,7 +99,7 @@ module _ {cs : List Corner} {n i : ℕ} {o : Outline} (filling : Filling cs n o 
     is = rw (filling .is, is-c, fill-next cs i (omega (arith, filling .counted)) (omega (arith, filling .fits)));
   }
 
-  -- all are
+  -- after the last turn the value holds the list
   pub fill-end : n ≤ i → o ≡ held cs
   unfolding held
   fill-end past =

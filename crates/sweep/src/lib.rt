@@ -9,7 +9,7 @@ use reading::corners::count;
 use reading::corners::next;
 ghost use mathlib.Core.Path.{_≡_};
 ghost use Prim.Native.Nat.{suc, _<_};
-ghost use lib.ListN.{length};
+ghost use Rattle.outline.specs.Convex.{Accepted};
 ghost use Rattle.outline.specs.Corners.{corners};
 ghost use Rattle.hausdorff.specs.code.Lowest.{LowestLeftmost};
 ghost use Rattle.sweep.specs.State.{IsAfter, CanStep, isLower, beginning};
@@ -154,10 +154,9 @@ fn is_lower(p: Corner, q: Corner) -> bool
     if p.y == q.y { p.x < q.x } else { p.y < q.y }
 }
 
-// The number of the lowest corner of a list, of several the leftmost: where the list is accepted, its outline's first
-// edge in the angular order starts there.
+// The number of the lowest corner, of several the leftmost: there the outline's first edge in the angular order starts.
 pub fn lowest(s: &[i32]) -> usize
-    requires { ⌜ 0 < length (corners (now s)) ⌝ }
+    requires { ⌜ Accepted (corners (now s)) ⌝ }
     ensures { λ r. ⌜ LowestLeftmost (corners (now (s .entry))) r ⌝ }
 {
     let n = count(s);

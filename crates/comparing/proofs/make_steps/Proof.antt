@@ -45,14 +45,10 @@ loop2-again : tie.Need-loop2-again Inv-loop μ-loop Inv-loop2 μ-loop2 Inv-loop3
 loop2-again c = fill-on (c .before .before .loop2 .inv) (c .before .loop2-test .taken) (c .corner2 .ensures)
 
 lowest-requires : tie.Need-lowest-requires Inv-loop μ-loop Inv-loop2 μ-loop2 Inv-loop3 μ-loop3
-lowest-requires c κs =
-    let start = c .before .before .before .before .before .before .before .before in
-    omega (arith, start .pre .0 .at-least)
+lowest-requires c κs = c .before .before .before .before .before .before .before .before .pre .0
 
 lowest-requires-2 : tie.Need-lowest-requires-2 Inv-loop μ-loop Inv-loop2 μ-loop2 Inv-loop3 μ-loop3
-lowest-requires-2 c κs =
-    let start = c .before .before .before .before .before .before .before .before .before .before in
-    omega (arith, start .pre .1 .0 .at-least)
+lowest-requires-2 c κs = c .before .before .before .before .before .before .before .before .before .before .pre .1 .0
 
 loop3-holds : tie.Need-loop3-holds Inv-loop μ-loop Inv-loop2 μ-loop2 Inv-loop3 μ-loop3
 loop3-holds c =

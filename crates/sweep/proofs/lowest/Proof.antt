@@ -17,7 +17,7 @@ abbrev μ-loop : tie.MeasureT-loop
 μ-loop s n found₀ i₀ found i = n - i
 
 loop-holds : tie.Need-loop-holds Inv-loop μ-loop
-loop-holds c = (c .count .ensures, search-start (omega arith))
+loop-holds c = (c .count .ensures, search-start (omega (arith, c .before .pre .at-least)))
 
 loop-again : tie.Need-loop-again Inv-loop μ-loop
 loop-again c =
