@@ -1,7 +1,7 @@
-/* Times comparing at 2×4, 2×32, 2×128 and 2×256 corners: the proved call, the checks of both lists alone, and beside
-   them the plain sweep and the exhaustive search of plain.h, on the same outlines in one run. What the call takes more
-   than the checks is its sweep, with the filling of both outlines and the report. Each figure is the median of 31 runs,
-   in nanoseconds for a comparison. */
+/* Times comparing at 2×4, 2×32, 2×128 and 2×256 corners: the proved call, the same with both lists clockwise, the
+   checks of both lists alone, and beside them the plain sweep and the exhaustive search of plain.h, on the same outlines
+   in one run. What the call takes more than the checks is its sweep, with the filling of both outlines and the report.
+   Each figure is the median of 31 runs, in nanoseconds for a comparison. */
 #include <math.h>
 #include <stdio.h>
 #include <stdlib.h>
@@ -15,6 +15,8 @@ enum { RUNS = 31, MOST = 256 };
 typedef struct {
     size_t n;
     Corner a[MOST], b[MOST];
+    /* the same corners in the opposite order */
+    Corner clockwise_a[MOST], clockwise_b[MOST];
 } Pair;
 
 static uint64_t greater(uint64_t a, uint64_t b) { return a < b ? b : a; }
@@ -31,18 +33,24 @@ static uint64_t digest_of(const Done *done) {
 }
 
 /* Each way, some times over. All turns together give the greatest. */
-static uint64_t call(const Pair *p, uint32_t turns) {
+static uint64_t compare(const Corner *a, const Corner *b, size_t n, uint32_t turns) {
     uint64_t greatest = 0;
     for (uint32_t i = 0; i < turns; i++) {
         int64_t result[RAVINEBOWL_COMPARE_LENGTH];
-        struct ravinebowl_status status = ravinebowl_compare(&p->a[0].x, 2 * p->n, &p->b[0].x, 2 * p->n,
-                                                             RAVINEBOWL_ENOUGH_STEPS, result, RAVINEBOWL_COMPARE_LENGTH);
+        struct ravinebowl_status status =
+            ravinebowl_compare(&a[0].x, 2 * n, &b[0].x, 2 * n, RAVINEBOWL_ENOUGH_STEPS, result, RAVINEBOWL_COMPARE_LENGTH);
         if (status.code == RAVINEBOWL_ANSWERED)
             greatest = greater(greatest,
                                digest(result[RAVINEBOWL_COMPARE_GAP_UPPER], result[RAVINEBOWL_COMPARE_CLEARANCE],
                                       result[RAVINEBOWL_COMPARE_GAP_UPPER_A], result[RAVINEBOWL_COMPARE_GAP_UPPER_B]));
     }
     return greatest;
+}
+
+static uint64_t call(const Pair *p, uint32_t turns) { return compare(p->a, p->b, p->n, turns); }
+
+static uint64_t call_clockwise(const Pair *p, uint32_t turns) {
+    return compare(p->clockwise_a, p->clockwise_b, p->n, turns);
 }
 
 static uint64_t checks(const Pair *p, uint32_t turns) {
@@ -72,9 +80,9 @@ static uint64_t exhaustive(const Pair *p, uint32_t turns) {
     return greatest;
 }
 
-enum { WAYS = 4 };
+enum { CALL, CLOCKWISE, CHECKS, PLAIN, EXHAUSTIVE, WAYS };
 
-static uint64_t (*const ways[WAYS])(const Pair *, uint32_t) = {call, checks, plain, exhaustive};
+static uint64_t (*const ways[WAYS])(const Pair *, uint32_t) = {call, call_clockwise, checks, plain, exhaustive};
 
 /* The medians of all ways, their runs taken in turn so that load on the machine meets each alike. */
 static void medians(const Pair *p, double *out) {
@@ -82,7 +90,7 @@ static void medians(const Pair *p, double *out) {
     static double run[WAYS][RUNS];
     for (int i = 0; i < RUNS; i++)
         for (int w = 0; w < WAYS; w++) {
-            uint32_t turns = (w == 3 ? 2000 : 50000) / (p->n * (w == 3 ? p->n / 4 : 1)) + 1;
+            uint32_t turns = (w == EXHAUSTIVE ? 2000 : 50000) / (p->n * (w == EXHAUSTIVE ? p->n / 4 : 1)) + 1;
             double start = now();
             sink = ways[w](p, turns);
             run[w][i] = (now() - start) / turns;
@@ -102,24 +110,31 @@ static void ellipse(Corner *out, size_t n, double rx, double ry, double x, doubl
     }
 }
 
-static void time_pair(const char *name, const Pair *p) {
+static void reverse(Corner *out, const Corner *corners, size_t n) {
+    for (size_t i = 0; i < n; i++)
+        out[i] = corners[n - 1 - i];
+}
+
+static void time_pair(const char *name, Pair *p) {
     double t[WAYS];
+    reverse(p->clockwise_a, p->a, p->n);
+    reverse(p->clockwise_b, p->b, p->n);
     uint64_t answer = call(p, 1);
-    if (answer == 0 || answer != plain(p, 1) || answer != exhaustive(p, 1) ||
+    if (answer == 0 || answer != call_clockwise(p, 1) || answer != plain(p, 1) || answer != exhaustive(p, 1) ||
         checks(p, 1) != 2 * RAVINEBOWL_WRONG_LENGTH) {
         fprintf(stderr, "%s, 2x%zu: an outline is refused, or the answers differ\n", name, p->n);
         exit(1);
     }
     medians(p, t);
-    double sweep = t[0] - t[1];
-    printf("| %s | 2×%zu | %.0f | %.0f | %.0f | %.1f | %.0f | %.2f | %.0f | %.0f |\n", name, p->n, t[0], t[1], sweep, sweep / (2 * p->n), t[2],
-           sweep / t[2], t[3], t[3] / sweep);
+    double sweep = t[CALL] - t[CHECKS];
+    printf("| %s | 2×%zu | %.0f | %.0f | %.0f | %.0f | %.1f | %.0f | %.2f | %.0f | %.0f |\n", name, p->n, t[CALL], t[CLOCKWISE],
+           t[CHECKS], sweep, sweep / (2 * p->n), t[PLAIN], sweep / t[PLAIN], t[EXHAUSTIVE], t[EXHAUSTIVE] / sweep);
 }
 
 int main(void) {
     static const size_t counts[] = {4, 32, 128, 256};
-    puts("| outlines | corners | call | checks | sweep | for a step | plain sweep | ratio | exhaustive | ratio |");
-    puts("|---|---|---|---|---|---|---|---|---|---|");
+    puts("| outlines | corners | call | clockwise | checks | sweep | for a step | plain sweep | ratio | exhaustive | ratio |");
+    puts("|---|---|---|---|---|---|---|---|---|---|---|");
     for (int i = 0; i < 4; i++) {
         Pair p = {.n = counts[i]};
         ellipse(p.a, p.n, 15000, 15000, 0, 0.3);

@@ -8,6 +8,7 @@
 
 static const int32_t SQUARE[] = {0, 0, 4, 0, 4, 4, 0, 4};
 static const int32_t TRIANGLE[] = {0, 0, 4, 0, 0, 4};
+static const int32_t CLOCKWISE[] = {0, 0, 0, 4, 4, 0};
 static const int32_t MOVED[] = {10, 0, 14, 0, 14, 4, 10, 4};
 static const int32_t STAR[] = {0, 3, -2, -3, 3, 1, -3, 1, 2, -3};
 static const int32_t WEDGE[] = {0, 0, 9, 0, 0, 3};
@@ -126,15 +127,19 @@ int main(void) {
     compare(SQUARE, COUNT(SQUARE), TRIANGLE, COUNT(TRIANGLE), 4);
     compare(SQUARE, COUNT(SQUARE), TRIANGLE, COUNT(TRIANGLE), 3);
     compare(SQUARE, COUNT(SQUARE), MOVED, COUNT(MOVED), RAVINEBOWL_ENOUGH_STEPS);
+    compare(SQUARE, COUNT(SQUARE), CLOCKWISE, COUNT(CLOCKWISE), RAVINEBOWL_ENOUGH_STEPS);
+    compare(CLOCKWISE, COUNT(CLOCKWISE), SQUARE, COUNT(SQUARE), 4);
     compare(STAR, COUNT(STAR), SQUARE, COUNT(SQUARE), RAVINEBOWL_ENOUGH_STEPS);
     compare(SQUARE, COUNT(SQUARE), NULL, 0, RAVINEBOWL_ENOUGH_STEPS);
     nearest_point(6, 6, WEDGE, COUNT(WEDGE));
     nearest_point(12, 9, WEDGE, COUNT(WEDGE));
     nearest_point(1, 1, WEDGE, COUNT(WEDGE));
+    nearest_point(2, -3, CLOCKWISE, COUNT(CLOCKWISE));
     nearest_point(16001, 0, WEDGE, COUNT(WEDGE));
     remove_corner(SQUARE, COUNT(SQUARE), 1, COUNT(SQUARE) - 2);
     remove_corner(SQUARE, COUNT(SQUARE), 4, COUNT(SQUARE) - 2);
     remove_corner(SQUARE, COUNT(SQUARE), 1, COUNT(SQUARE));
+    remove_corner(CLOCKWISE, COUNT(CLOCKWISE), 1, COUNT(CLOCKWISE) - 2);
     wrong_result_length();
     return 0;
 }

@@ -5,6 +5,7 @@ use ravinebowl::{Comparison, CornerGap, NearestPoint, ENOUGH_STEPS};
 
 const SQUARE: [i32; 8] = [0, 0, 4, 0, 4, 4, 0, 4];
 const TRIANGLE: [i32; 6] = [0, 0, 4, 0, 0, 4];
+const CLOCKWISE: [i32; 6] = [0, 0, 0, 4, 4, 0];
 const MOVED: [i32; 8] = [10, 0, 14, 0, 14, 4, 10, 4];
 const STAR: [i32; 10] = [0, 3, -2, -3, 3, 1, -3, 1, 2, -3];
 const WEDGE: [i32; 6] = [0, 0, 9, 0, 0, 3];
@@ -101,14 +102,18 @@ fn main() {
     compare(&SQUARE, &TRIANGLE, 4);
     compare(&SQUARE, &TRIANGLE, 3);
     compare(&SQUARE, &MOVED, ENOUGH_STEPS);
+    compare(&SQUARE, &CLOCKWISE, ENOUGH_STEPS);
+    compare(&CLOCKWISE, &SQUARE, 4);
     compare(&STAR, &SQUARE, ENOUGH_STEPS);
     compare(&SQUARE, &[], ENOUGH_STEPS);
     nearest_point(6, 6, &WEDGE);
     nearest_point(12, 9, &WEDGE);
     nearest_point(1, 1, &WEDGE);
+    nearest_point(2, -3, &CLOCKWISE);
     nearest_point(16001, 0, &WEDGE);
     remove_corner(&SQUARE, 1, &mut [0; SQUARE.len() - 2]);
     remove_corner(&SQUARE, 4, &mut [0; SQUARE.len() - 2]);
     remove_corner(&SQUARE, 1, &mut [0; SQUARE.len()]);
+    remove_corner(&CLOCKWISE, 1, &mut [0; CLOCKWISE.len() - 2]);
     wrong_result_length();
 }

@@ -4,11 +4,16 @@
  * Units. Coordinates and the clearance are in whole millimetres; a gap, which is a squared distance, is in square millimetres.
  *
  * Lists. A list is a pointer to its first number and the count of its numbers. An outline is a list of coordinates: x and y of
- * corner 0, then of corner 1, and so on, counterclockwise. Edge i runs from corner i to corner i + 1, the last edge back to corner 0.
- * An outline is accepted if it has 3 to 256 corners, every coordinate is from -16,000 to 16,000, and every corner other than an edge's
- * two ends is strictly left of that edge, for every edge.
+ * corner 0, then of corner 1, and so on. Edge i runs from corner i to corner i + 1, the last edge back to corner 0. An outline is accepted
+ * if it has 3 to 256 corners, every coordinate is from -16,000 to 16,000, and it has an orientation: counterclockwise, if every corner other
+ * than an edge's two ends is strictly left of that edge, for every edge; clockwise, if it is strictly right, for every edge.
  *
- * Strictly left of an edge from (px, py) to (qx, qy) is a point (x, y) for which (qx - px) * (y - py) - (qy - py) * (x - px) is above 0.
+ * Strictly left of an edge from (px, py) to (qx, qy) is a point (x, y) for which (qx - px) * (y - py) - (qy - py) * (x - px) is above 0,
+ * and strictly right one for which it is below 0.
+ *
+ * Orientation. Comparing and the nearest point take outlines of either orientation, removing a corner takes counterclockwise ones alone.
+ * Every number of a corner or an edge, in a result and in the place of a refusal, is its number in the list as given: edge i joins corner i
+ * to the following one, whichever way round the list goes.
  *
  * What a caller must see to. A pointer must be aligned, and good for as many numbers as the count says; a list that is empty may have any
  * pointer. A list that is written (`result`, `out`) must not overlap another list of the same call. Lists that are only read may overlap or
@@ -46,8 +51,9 @@ enum ravinebowl_code {
     RAVINEBOWL_TOO_MANY_CORNERS = 3,     /* more than 256 corners */
     RAVINEBOWL_OUT_OF_RANGE = 4,         /* a corner has a coordinate out of range; place: the lowest such corner */
     RAVINEBOWL_REPEATED = 5,             /* a corner equals the one after it; after the last comes corner 0; place: the lowest such corner */
-    RAVINEBOWL_NOT_LEFT = 6,             /* a corner that is no end of an edge is not strictly left of it; place: the lowest edge that
-                                          * has such a corner, and its lowest such corner */
+    RAVINEBOWL_NOT_LEFT = 6,             /* comparing, nearest point: the list fits neither orientation; removing a corner: it is not
+                                          * counterclockwise; place, of all three: the lowest edge that some corner, other than its ends,
+                                          * is not strictly left of, and the lowest such corner */
     RAVINEBOWL_POINT_OUT_OF_RANGE = 7,   /* the point is out of range */
     RAVINEBOWL_NO_SUCH_CORNER = 8,       /* no corner has that number */
     RAVINEBOWL_WRONG_LENGTH = 9,         /* the list to write is not exactly as long as what remains */
@@ -87,11 +93,13 @@ enum ravinebowl_nearest_place {
 /* The places of the result list of ravinebowl_compare, and its length.
  * Done: places 4 to 12 have the answer, the corner of greatest gap. Spent: they have the worst so far, the greatest gap found in the steps
  * made, which is never above the answer's; where there is none yet place 4 is 0 and places 5 to 12 are -1. A comparison that is spent cannot
- * be continued: call again with more steps. A support corner is the corner of an outline that the sweep has come to.
+ * be continued: call again with more steps. A support corner is the corner of an outline that the sweep has come to; it goes
+ * counterclockwise round each piece, so by falling numbers where the list is clockwise.
  * Places 14 to 22 have what places 4 to 12 have, in their order, of A's corners alone, and places 23 to 31 of B's; there is no clearance of
  * a side. Done: the corner of the outline's greatest gap; where all its gaps are 0, its corner 0, within. Spent: the outline's worst so far;
- * where there is none yet place 14, or 23, is 0 and the eight after it are -1. Places 4 to 12 repeat the one of greater gap, A's where the
- * gaps are equal; spent, the one that there is where the other outline has none. */
+ * where there is none yet place 14, or 23, is 0 and the eight after it are -1. Of corners of one outline with equal gaps it is the one of
+ * lowest number. Places 4 to 12 repeat the one of greater gap, A's where the gaps are equal; spent, the one that there is where the other
+ * outline has none. */
 enum ravinebowl_compare_place {
     RAVINEBOWL_COMPARE_KIND = 0,           /* enum ravinebowl_comparison */
     RAVINEBOWL_COMPARE_STEPS = 1,          /* the steps made: done, the number of edges of both outlines; spent, the allowance */
@@ -129,19 +137,21 @@ enum ravinebowl_compare_place {
     RAVINEBOWL_COMPARE_LENGTH = 32
 };
 
-/* Compares outlines A and B in at most `allowance` steps and writes 32 numbers to `result`. It is done if the allowance is not below the
- * number of edges of both, and otherwise spent. When done, the gap is the squared Hausdorff distance, and A's gap and B's are the two
- * squared directed Hausdorff distances, from A to B and from B to A, of which it is the greater.
+/* Compares outlines A and B, each of either orientation, in at most `allowance` steps and writes 32 numbers to `result`. It is done if the
+ * allowance is not below the number of edges of both, and otherwise spent. When done, the gap is the squared Hausdorff distance, and A's gap
+ * and B's are the two squared directed Hausdorff distances, from A to B and from B to A, of which it is the greater. With the corners of a
+ * list in the opposite order the gaps, as values, and the clearance are the same; where gaps are equal another corner may be named.
  * Order: 100, then 1 to 6 for A, then 1 to 6 for B. */
 struct ravinebowl_status ravinebowl_compare(const int32_t *a, size_t a_length, const int32_t *b, size_t b_length, uint32_t allowance,
                                             int64_t *result, size_t result_length);
 
-/* Finds the nearest point of an outline to the point (x, y) and writes 7 numbers to `result`. Order: 100, then 1 to 6, then 7. */
+/* Finds the nearest point of an outline, of either orientation, to the point (x, y) and writes 7 numbers to `result`. With the corners in
+ * the opposite order gap and point are the same. Order: 100, then 1 to 6, then 7. */
 struct ravinebowl_status ravinebowl_nearest_point(int32_t x, int32_t y, const int32_t *outline, size_t outline_length, int64_t *result,
                                                   size_t result_length);
 
-/* Removes a corner and writes the other corners to `out`, in their order; `out_length` must be outline_length - 2. What it writes is an
- * accepted outline. Order: 1 to 6, then 8, then 2, then 9. */
+/* Removes a corner of a counterclockwise outline and writes the other corners to `out`, in their order; `out_length` must be
+ * outline_length - 2. What it writes is an accepted outline, counterclockwise too. Order: 1 to 6, then 8, then 2, then 9. */
 struct ravinebowl_status ravinebowl_remove_corner(const int32_t *outline, size_t outline_length, size_t corner, int32_t *out,
                                                   size_t out_length);
 

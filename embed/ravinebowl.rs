@@ -1,4 +1,6 @@
 //! Ravinebowl from Rust: a safe wrapper of the C functions, which ravinebowl.h describes. No function panics, whatever it is handed.
+//! Comparing and the nearest point take outlines of either orientation, removing a corner takes counterclockwise ones alone. The numbers
+//! of corners and edges are those of the list as given: edge i joins corner i to the following one, whichever way round the list goes.
 
 use std::fmt;
 
@@ -106,9 +108,9 @@ pub struct CornerGap {
 }
 
 /// What comparing gives. Done: the corner of greatest gap, and the clearance, the smallest whole number of millimetres whose
-/// square is not below that gap, at most 45,255; and of each outline the corner of greatest gap, which is its corner 0, within,
-/// where all its gaps are 0. Spent: the allowance was below the number of edges; the support corners and the worst so far, if
-/// there is one, of both outlines and of each.
+/// square is not below that gap, at most 45,255; and of each outline the corner of greatest gap, of equal ones that of lowest
+/// number, which is its corner 0, within, where all its gaps are 0. Spent: the allowance was below the number of edges; the
+/// support corners and the worst so far, if there is one, of both outlines and of each.
 #[derive(Clone, Copy, Debug, PartialEq, Eq)]
 pub enum Comparison {
     Done {
@@ -136,7 +138,8 @@ pub enum Place {
     EdgeAndCorner(usize, usize),
 }
 
-/// Why a call refused: the numbers are in ravinebowl.h. There is a side where there are two outlines.
+/// Why a call refused: the numbers are in ravinebowl.h. There is a side where there are two outlines. 6 is, in comparing and the
+/// nearest point, for a list that fits neither orientation; in removing a corner for one that is not counterclockwise.
 #[derive(Clone, Copy, Debug, PartialEq, Eq)]
 pub struct Refusal {
     pub number: u32,
@@ -281,7 +284,7 @@ fn corner_gap(result: &[i64; COMPARE_LENGTH], place: usize) -> Option<CornerGap>
     })
 }
 
-/// Compares two outlines in at most `allowance` steps.
+/// Compares two outlines, each of either orientation, in at most `allowance` steps.
 pub fn compare(a: &[i32], b: &[i32], allowance: u32) -> Result<Comparison, Refusal> {
     let mut result = [0; COMPARE_LENGTH];
     compare_into(a, b, allowance, &mut result).answered()?;
@@ -309,14 +312,15 @@ pub fn compare(a: &[i32], b: &[i32], allowance: u32) -> Result<Comparison, Refus
     })
 }
 
-/// Finds the nearest point of an outline to the point (x, y).
+/// Finds the nearest point of an outline, of either orientation, to the point (x, y).
 pub fn nearest_point(x: i32, y: i32, outline: &[i32]) -> Result<NearestPoint, Refusal> {
     let mut result = [0; NEAREST_LENGTH];
     nearest_point_into(x, y, outline, &mut result).answered()?;
     Ok(nearest(result))
 }
 
-/// Removes a corner and writes the others to `out`, which must be exactly as long as what remains; a refusal leaves it as it was.
+/// Removes a corner of a counterclockwise outline and writes the others to `out`, which must be exactly as long as what remains; a
+/// refusal leaves it as it was.
 pub fn remove_corner(outline: &[i32], corner: usize, out: &mut [i32]) -> Result<(), Refusal> {
     // SAFETY: as above.
     let status = unsafe {

@@ -4,42 +4,66 @@ and crates/call_cases/stdout.
 Run without arguments from anywhere. The same seed gives the same files, on any machine. The input has the number of
 cases, and for each how many numbers A's list has and the numbers, the same of B's, and eight numbers: x and y of a
 point, the length of the result list for its nearest point, a corner number in two parts (over 2^32, and the rest), the
-length of the list to write in removing it, an allowance, and the length of the result list of comparing. The script
-prints how many cases there are, and how many comparisons of each kind.
+length of the list to write in removing it, an allowance, and the length of the result list of comparing. The cases of
+`of_orientations`, which come last, have clockwise lists. The script prints how many cases there are, and how many
+comparisons of each kind.
 """
 from collections import Counter
 from itertools import product
 from pathlib import Path
 
-from call_reference import COMPARE_LENGTH, NEAREST_LENGTH, answers, c_compare, line
-from call_reference import nearest_point, read_outline, remove_corner
+from call_reference import COMPARE_LENGTH, FEATURES, FILL, NEAREST_LENGTH, answers, c_compare, line
+from call_reference import nearest_point, read_outline, read_outline_strict, remove_corner
 from fit import spoiled
-from pairs import CLOCKWISE, LARGEST, LARGEST_ALLOWANCE, LOWER, MOVED, SQUARE, STAR, STRAIGHT, TRIANGLE, TURNED, UPPER
-from pairs import AROUND, SIDES, Random, beside, from_corner, from_edges, large, middling, near_tie, near_tie_of_sides
-from pairs import numbers, opposite, rounded, roundings, small
-from reference import LIMIT, Comparing, corners, edge, is_within, minus, refusal, side_number
+from pairs import ABOUT, ABOUT_FROM_LATER, ABOUT_MOVED, AROUND, CLOCKWISE, CLOCKWISE_MOVED, CLOCKWISE_SIDES
+from pairs import CLOCKWISE_SQUARE, FAULTY, LARGEST, LARGEST_ALLOWANCE, LOWER, MOVED, SIDES, SQUARE, STAR, STRAIGHT
+from pairs import TRIANGLE, TURNED, UPPER, Random, beside, clockwise, from_corner, from_edges, in_orientations
+from pairs import is_clockwise, large, middling, near_tie, near_tie_of_sides, numbers, opposite, rounded, roundings
+from pairs import small, which, which_number
+from reference import LIMIT, Comparing, corners, default_refusal, edge, is_within, minus, refusal, side_number
 
 SEED = 20261116
 LARGEST_COORDINATE, LEAST_COORDINATE = 2**31 - 1, -2**31
 LARGEST_CORNER = 2**64 - 1
 LONGEST_LIST = 520
-# A wrong length of a result list, the longest for the nearest point: the places of a comparison before those of A. And the
-# longest result list of comparing.
+# A wrong length of a result list, the longest for the nearest point: the places of a comparison before those of A. And
+# the longest result list of comparing.
 BEFORE_SIDES = 14
 LONGEST_RESULT = 40
 FLAT = [0, 0, 9, 0, 0, 3]
+CLOCKWISE_FLAT = [0, 0, 0, 3, 9, 0]
 PARABOLA = numbers([(i, i * i - 8000) for i in range(-127, 129)])
 
-# The values of the specification's examples.
+# The values of the specification's examples, and of clockwise lists.
 STATED = [
     (nearest_point((6, 6), FLAT), "nearest edge 1 2025/90 405/90 135/90"),
     (nearest_point((12, 9), FLAT), "nearest corner 1 90/1 9/1 0/1"),
+    (nearest_point((6, 6), CLOCKWISE_FLAT), "nearest edge 1 2025/90 405/90 135/90"),
+    (nearest_point((12, 9), CLOCKWISE_FLAT), "nearest corner 2 90/1 9/1 0/1"),
+    (nearest_point((-2, 1), CLOCKWISE_FLAT), "nearest edge 0 36/9 0/9 9/9"),
+    (nearest_point((4, -5), CLOCKWISE_FLAT), "nearest edge 2 2025/81 324/81 0/81"),
+    (nearest_point((-1, 5), CLOCKWISE_FLAT), "nearest corner 1 5/1 0/1 3/1"),
+    (nearest_point((-1, -1), CLOCKWISE_FLAT), "nearest corner 0 2/1 0/1 0/1"),
+    (nearest_point((1, 1), CLOCKWISE_FLAT), "nearest within 0/1 1/1 1/1"),
+    (nearest_point((16001, 1), CLOCKWISE_FLAT), "nearest refused 7"),
     (read_outline(STAR), "read refused 6 0 3"),
+    (read_outline_strict(STAR), "read_strict refused 6 0 3"),
     (read_outline(STRAIGHT), "read refused 6 0 2"),
-    (read_outline(CLOCKWISE), "read refused 6 0 2"),
-    (read_outline(LARGEST), "read 4 -16000 -16000 16000 -16000 16000 16000 -16000 16000"),
+    (read_outline(CLOCKWISE), "read clockwise 3 0 0 4 0 0 4"),
+    (read_outline_strict(CLOCKWISE), "read_strict refused 6 0 2"),
+    (read_outline(TRIANGLE), "read counterclockwise 3 0 0 4 0 0 4"),
+    (read_outline_strict(TRIANGLE), "read_strict 3 0 0 4 0 0 4"),
+    (read_outline(CLOCKWISE_SQUARE), "read clockwise 4 0 0 4 0 4 4 0 4"),
+    (read_outline([4, 4, 4, 0, 0, 0, 0, 4]), "read clockwise 4 4 4 0 4 0 0 4 0"),
+    (read_outline(2 * CLOCKWISE), "read refused 6 0 2"),
+    (read_outline([0, 0, 0, 16001, 4, 0]), "read refused 4 1"),
+    (read_outline_strict([0, 0, 0, 4, 4, 0, 4, 0]), "read_strict refused 5 2"),
+    (remove_corner(CLOCKWISE_SQUARE, 1, 6), "remove refused 6 0 2 list 77 77 77 77 77 77"),
+    (remove_corner(CLOCKWISE, 5, 1), "remove refused 6 0 2 list 77"),
+    (read_outline(LARGEST), "read counterclockwise 4 -16000 -16000 16000 -16000 16000 16000 -16000 16000"),
     (read_outline([16001, 0, 4, 0, 0, 4]), "read refused 4 0"),
-    (read_outline(PARABOLA)[:12], "read 256 -12"),
+    (read_outline(PARABOLA)[:29], "read counterclockwise 256 -12"),
+    (read_outline(PARABOLA[-2:] + PARABOLA[:-2])[:36], "read counterclockwise 256 128 8384 -"),
     (read_outline(PARABOLA + [129, 8641]), "read refused 3"),
     (read_outline([]), "read refused 2"),
     (read_outline([0]), "read refused 1"),
@@ -56,6 +80,12 @@ STATED = [
      "1 2 2 1 256 32 64 64 32 2 0 0 -1 0 1 0 0 1"),
     (c_compare(SQUARE, MOVED, 8, COMPARE_LENGTH), "c_compare 0 0 0 0 0 list 0 8 -1 -1 1 0 1 0 100 1 10 0 1 10 "
      "1 0 1 0 100 1 10 0 1 2 1 1 1 100 1 4 0 1"),
+    (c_compare(SQUARE, CLOCKWISE, 3, COMPARE_LENGTH), "c_compare 0 0 0 0 0 list 1 3 2 2 0 -1 -1 -1 -1 -1 -1 -1 -1 -1 "
+     "0 -1 -1 -1 -1 -1 -1 -1 -1 0 -1 -1 -1 -1 -1 -1 -1 -1"),
+    (c_compare(CLOCKWISE, SQUARE, 4, COMPARE_LENGTH), "c_compare 0 0 0 0 0 list 1 4 1 2 2 2 2 1 256 32 64 64 32 -1 "
+     "0 -1 -1 -1 -1 -1 -1 -1 -1 2 2 2 1 256 32 64 64 32"),
+    (c_compare(CLOCKWISE_SQUARE, CLOCKWISE_MOVED, 8, COMPARE_LENGTH), "c_compare 0 0 0 0 0 "
+     "list 0 8 -1 -1 1 0 1 0 100 1 10 0 1 10 1 0 1 0 100 1 10 0 1 2 2 1 2 100 1 4 4 1"),
     (c_compare(SQUARE, TRIANGLE, 7, BEFORE_SIDES), "c_compare 100 0 0 0 0 list" + 14 * " 77"),
 ]
 
@@ -96,9 +126,9 @@ def often(random, usual, others):
     return usual if random.below(5) else random.one_of(others)
 
 
-def numbers_for(random, a, b):
-    """The numbers of a case for two lists."""
-    accepted = corners(a) if refusal(a) is None else []
+def numbers_for(random, a, b, refused=refusal):
+    """The numbers of a case for two lists; the point is for A, where it is not refused."""
+    accepted = corners(a) if refused(a) is None else []
     x, y = point(random, accepted)
     n = len(a) // 2
     corner = often(random, random.below(max(n, 1)), [n, n + 1, 256, 2**32, LARGEST_CORNER])
@@ -197,6 +227,50 @@ def of_lengths():
     yield STAR, [0], [4, 5, NEAREST_LENGTH, 0, 8, 7, BEFORE_SIDES]
 
 
+def point_cases():
+    """Points for clockwise lists: off every feature, on the border, inside, and out of range."""
+    for point in ((6, 6), (12, 9), (-2, 1), (4, -5), (-1, 5), (-1, -1), (1, 1), (0, 3), (3, 2), (16001, 0)):
+        yield CLOCKWISE_FLAT, point
+    # From another corner: edges 0 to 3, corners 0 to 3.
+    square = numbers(from_corner(corners(CLOCKWISE_SQUARE), 1))
+    for point in ((2, 7), (7, 2), (2, -7), (-7, 2), (-1, 6), (6, 6), (6, -1), (-1, -2)):
+        yield square, point
+
+
+def of_orientations(random):
+    """Cases with clockwise lists."""
+    # B is a small triangle at the point, of either orientation.
+    for number, (a, (x, y)) in enumerate(point_cases()):
+        b = [(x, y), (x + 1, y), (x, y + 1)]
+        b = numbers(clockwise(b) if number % 3 == 0 else b)
+        edges = (len(a) + len(b)) // 2
+        length = NEAREST_LENGTH - (number % 8 == 7)
+        allowance = edges - number // 3 % 2 * (number % 4)
+        yield a, b, [x, y, length, number % 5, len(a) - 2 - number % 2, allowance, COMPARE_LENGTH]
+    # As A or as B, but for the longest.
+    for number, (one, _) in enumerate(FAULTY):
+        if len(one) < 100 and number % 3 < 2:
+            yield one, CLOCKWISE, [1, 1, NEAREST_LENGTH, 0, max(len(one) - 2, 0), 9, COMPARE_LENGTH]
+        elif len(one) < 100:
+            yield CLOCKWISE_SQUARE, one, [5, 1, NEAREST_LENGTH, 4, 6, 9, COMPARE_LENGTH]
+    for a, b, allowance in [
+        (SQUARE, CLOCKWISE, 3), (CLOCKWISE_SQUARE, TRIANGLE, 5), (CLOCKWISE, CLOCKWISE_SQUARE, 4),
+        (CLOCKWISE, CLOCKWISE_SQUARE, 7), (TRIANGLE, CLOCKWISE_SQUARE, 4), (CLOCKWISE, UPPER, 6),
+        (CLOCKWISE_SQUARE, CLOCKWISE_MOVED, 8), (SQUARE, CLOCKWISE_MOVED, 7),
+        (ABOUT, ABOUT_MOVED, 8), (ABOUT_FROM_LATER, ABOUT_MOVED, 1), (ABOUT_FROM_LATER, ABOUT_MOVED, 8),
+        ([4, 0, -2, -2, 0, 4, 4, 4], CLOCKWISE, 7),
+        # The last edge of B, and its edge 0.
+        ([0, 0, 1, -3, 4, 0], CLOCKWISE, 6), ([0, 0, 0, 4, -3, 1], CLOCKWISE, 6),
+    ]:
+        yield a, b, [b[0], b[1], NEAREST_LENGTH, 1, len(a) - 2, allowance, COMPARE_LENGTH]
+    around = numbers(clockwise(corners(PARABOLA)))
+    yield around, CLOCKWISE, [127, 8000, NEAREST_LENGTH, 255, 510, 259, COMPARE_LENGTH]
+    for number in range(8):
+        a, b = accepted_pair(random)
+        a, b = (numbers(piece) for piece in in_orientations(a, b, CLOCKWISE_SIDES[number % 4]))
+        yield a, b, numbers_for(random, a, b, default_refusal)
+
+
 def cases():
     random = Random(SEED)
     yield from worked()
@@ -211,10 +285,12 @@ def cases():
     for a, b, allowance in of_sides(random):
         yield a, b, [b[0], b[1], NEAREST_LENGTH, 0, len(a) - 2, allowance, COMPARE_LENGTH]
     yield from of_lengths()
+    yield from of_orientations(random)
 
 
 def kinds(text):
-    """The call, and the refusal's number and side, or the feature, or the kind of a comparison, side and feature."""
+    """The call, and the refusal's number and side, or the orientation, or the feature, or the kind of a comparison,
+    side and feature."""
     words = text.split()
     call, first, second = words[0], words[1], words[2] if len(words) > 2 else ""
     if first == "refused" or call == "nearest":
@@ -223,7 +299,11 @@ def kinds(text):
         return (call, first, second) if first != "0" else (call, first, words[7], words[11], words[13])
     if call == "c_nearest":
         return (call, first, words[7]) if first == "0" else (call, first)
-    return (call, first) if call == "c_remove" else (call, "done")
+    return (call, first) if call in ("c_remove", "read") else (call, "done")
+
+
+def as_held(piece):
+    return clockwise(piece) if is_clockwise(piece) else piece
 
 
 def on_border(v, piece):
@@ -233,7 +313,8 @@ def on_border(v, piece):
 def check_coverage(given):
     """The cases have what they are to have, whatever the seed."""
     found = {kinds(text) for one in given for text in answers(*one)}
-    expected = {("read", "done")} | {("read", "refused", str(n)) for n in range(1, 7)}
+    expected = {("read", "counterclockwise"), ("read", "clockwise"), ("read_strict", "done")}
+    expected |= {(call, "refused", str(n)) for call in ("read", "read_strict") for n in range(1, 7)}
     expected |= {("nearest", feature) for feature in ("within", "corner", "edge")}
     expected |= {("nearest", "refused", str(n)) for n in range(1, 8)}
     expected |= {("remove", "done")} | {("remove", "refused", str(n)) for n in (1, 2, 3, 4, 5, 6, 8, 9)}
@@ -244,14 +325,14 @@ def check_coverage(given):
     expected |= {("c_compare", "0", kind, side, feature) for kind in "01" for side in "12" for feature in "12"}
     expected |= {("c_compare", "0", "1", "0", "-1"), ("c_compare", "0", "0", "1", "0")}
     assert found == expected, found ^ expected
-    accepted = [one for one in given if refusal(one[0]) is None and refusal(one[1]) is None]
+    accepted = [one for one in given if default_refusal(one[0]) is None and default_refusal(one[1]) is None]
     over_steps = {allowance - (len(a) + len(b)) // 2 for a, b, (*_, allowance, _) in accepted}
     over_corners = {corner - len(a) // 2 for a, _, (_, _, _, corner, *_) in accepted}
     over_length = {out_length - len(a) + 2 for a, _, (*_, out_length, _, _) in accepted}
     assert min(over_steps) < -2 and {-1, 0, 1} <= over_steps and 0 in {one[2][5] for one in accepted}
     assert min(over_corners) < -2 and {-1, 0, 1} <= over_corners
     assert min(over_length) < -2 and {-1, 0, 1, 2} <= over_length
-    points = [((x, y), corners(a)) for a, _, (x, y, *_) in given if refusal(a) is None]
+    points = [((x, y), as_held(corners(a))) for a, _, (x, y, *_) in given if default_refusal(a) is None]
     assert sum(on_border(v, piece) for v, piece in points) >= 10
     assert sum(is_within(v, piece) and not on_border(v, piece) for v, piece in points) >= 10
     assert max(out_length for _, _, (*_, out_length, _, _) in given) <= LONGEST_LIST
@@ -270,6 +351,38 @@ def check_coverage(given):
     for places in done:
         counted.update(roundings(places[8], places[9]))
     assert min(counted.values()) >= 1 and max(places[13] for places in done) == 45255, counted
+    check_orientations(accepted)
+
+
+def check_orientations(accepted):
+    """Of pairs that the default reading takes: each combination of orientations, done and spent, with either side
+    named; every feature of a clockwise list, as nearest to a point and in a comparison; removing refused by 6 for a
+    clockwise list, and for no other."""
+    found = set()
+    for a, b, given in accepted:
+        pair = corners(a), corners(b)
+        turned = [is_clockwise(piece) for piece in pair]
+        nearest, removed, *_, compared = answers(a, b, given)[2:]
+        assert (removed == line("remove refused 6 0 2 list", *[FILL] * given[4])) == turned[0]
+        _, kind, *number = nearest.split()[:3]
+        if turned[0] and kind != "refused":
+            place = "" if kind == "within" else f" {which_number(int(number[0]), len(pair[0]))}"
+            found.add(f"nearest, clockwise: {kind}{place}")
+        status, _, places = compared.partition(" list ")
+        if status == "c_compare 0 0 0 0 0":
+            places = [int(n) for n in places.split()]
+            found.add(f"clockwise: {which(*turned)}; {['done', 'spent'][places[0]]}, side {places[4]}")
+            for s, k in ((0, 14), (1, 23)):
+                if turned[1 - s] and places[k] and places[k + 2]:
+                    place = which_number(places[k + 3], len(pair[1 - s]))
+                    found.add(f"comparing, on clockwise {'BA'[s]}: {FEATURES[places[k + 2]]} {place}")
+    numbers_of = [f"{feature} {number}" for feature in ("corner", "edge") for number in ("0", "the last", "another")]
+    expected = {f"nearest, clockwise: {one}" for one in ["within"] + numbers_of}
+    expected |= {f"comparing, on clockwise {side}: {one}" for side in "AB" for one in numbers_of}
+    for turned, kind, side in product(("none", "A alone", "B alone", "both"), ("done", "spent"), "12"):
+        expected.add(f"clockwise: {turned}; {kind}, side {side}")
+    expected |= {f"clockwise: {turned}; spent, side 0" for turned in ("none", "A alone", "B alone", "both")}
+    assert found == expected, found ^ expected
 
 
 def answered_places(given):

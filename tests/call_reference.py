@@ -3,13 +3,18 @@ embed/ravinebowl.h alone.
 
 Written apart from the proved code, for comparison with it. `answers` gives the lines that the program `call_cases`
 prints for a case:
-    read COUNT X Y ..                                    read refused NUMBER [PLACE..]
+    read ORIENTATION COUNT X Y ..                        read refused NUMBER [PLACE..]
+    read_strict COUNT X Y ..                             read_strict refused NUMBER [PLACE..]
     nearest FEATURE GAP X Y                              nearest refused NUMBER [PLACE..]
     remove done list NUMBER ..                           remove refused NUMBER [PLACE..] list NUMBER ..
     c_nearest, c_remove, c_compare: CODE SIDE PLACES FIRST SECOND list NUMBER ..
-After `list` stands what is in the list to write after the call; before the call every place of it has FILL.
+After `list` stands what is in the list to write after the call; before the call every place of it has FILL. The
+orientation is `counterclockwise` or `clockwise`; the corners read are those held.
+
+Removing a corner has the strict reading, the nearest point and comparing the default one; both are in `reference.py`.
 """
-from reference import LIMIT, Comparing, clearance, corners, nearest, refusal
+from reference import LIMIT, Comparing, Outline, check_point_reversal, clearance, corners, default_refusal, nearest
+from reference import refusal
 
 FILL = 77
 ABSENT = -1
@@ -26,7 +31,7 @@ def line(*words):
 
 
 def point_refusal(point, numbers):
-    return refusal(numbers) or (None if all(-LIMIT <= z <= LIMIT for z in point) else (7,))
+    return default_refusal(numbers) or (None if all(-LIMIT <= z <= LIMIT for z in point) else (7,))
 
 
 def removal_refusal(numbers, corner, length):
@@ -47,15 +52,26 @@ def removed(numbers, corner, length):
 
 
 def read_outline(numbers):
+    """The default reading."""
+    found = default_refusal(numbers)
+    if found:
+        return line("read refused", *found)
+    outline = Outline(corners(numbers))
+    orientation = "clockwise" if outline.clockwise else "counterclockwise"
+    return line("read", orientation, len(outline.held), *(z for corner in outline.held for z in corner))
+
+
+def read_outline_strict(numbers):
     found = refusal(numbers)
-    return line("read refused", *found) if found else line("read", len(numbers) // 2, *numbers)
+    return line("read_strict refused", *found) if found else line("read_strict", len(numbers) // 2, *numbers)
 
 
 def nearest_point(point, numbers):
     found = point_refusal(point, numbers)
     if found:
         return line("nearest refused", *found)
-    near = nearest(point, corners(numbers))
+    check_point_reversal(point, corners(numbers))
+    near = nearest(point, Outline(corners(numbers)))
     return line("nearest", near.feature, near.gap, f"{near.x}/{near.lower}", f"{near.y}/{near.lower}")
 
 
@@ -100,7 +116,7 @@ def compare_places(a, b, allowance):
 
 def c_nearest_point(point, numbers, length):
     found = WRONG_RESULT_LENGTH if length != NEAREST_LENGTH else point_refusal(point, numbers)
-    result = [FILL] * length if found else nearest_places(nearest(point, corners(numbers)))
+    result = [FILL] * length if found else nearest_places(nearest(point, Outline(corners(numbers))))
     return line("c_nearest", *status(found, NO_SIDE), "list", *result)
 
 
@@ -110,9 +126,9 @@ def c_remove_corner(numbers, corner, length):
 
 
 def c_compare(a, b, allowance, length):
-    found, side = refusal(a), SIDE_A
+    found, side = default_refusal(a), SIDE_A
     if found is None:
-        found, side = refusal(b), SIDE_B
+        found, side = default_refusal(b), SIDE_B
     if length != COMPARE_LENGTH:
         found = WRONG_RESULT_LENGTH
     result = [FILL] * length if found else compare_places(a, b, allowance)
@@ -124,6 +140,7 @@ def answers(a, b, given):
     x, y, nearest_length, corner, out_length, allowance, compare_length = given
     return [
         read_outline(a),
+        read_outline_strict(a),
         nearest_point((x, y), a),
         remove_corner(a, corner, out_length),
         c_remove_corner(a, corner, out_length),

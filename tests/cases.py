@@ -4,15 +4,18 @@
 Run without arguments from anywhere; the files do not change. Each case is an input of the program fit, chosen by hand,
 and beside it stands what fit is to print, its lines joined by commas. The first three programs are fit on one case
 each. The input of `fit_cases` has its cases one after another, each ended by a byte 255, which is in no case; its
-output has what fit prints for each. The script prints how many cases there are, and of which kinds.
+output has what fit prints for each. The cases of clockwise lists come last, but for two. The script prints how many
+cases there are, and of which kinds.
 """
 from collections import Counter
 from itertools import product
 from pathlib import Path
 
-from fit_reference import LARGEST_INPUT, fit
-from pairs import AROUND, CLOCKWISE, LARGEST, LOWER, MOVED, SQUARE, STAR, STRAIGHT, TRIANGLE, TURNED, UPPER, numbers
-from pairs import opposite
+from fit_reference import LARGEST_INPUT, fit, read
+from pairs import ABOUT, ABOUT_MOVED, AROUND, CLOCKWISE, CLOCKWISE_MOVED, CLOCKWISE_SQUARE, FOUR, LARGEST, LOWER, MOVED
+from pairs import PARABOLA, SQUARE, STAR, STRAIGHT, TRIANGLE, TURNED, UPPER, clockwise, is_clockwise, numbers, opposite
+from pairs import which, which_number
+from reference import corners
 
 END = b"\xff"
 
@@ -34,8 +37,6 @@ def text(*lists):
     return b" ".join(b"%d" % n for one in lists for n in [len(one) // 2] + one)
 
 
-# 256 corners on a parabola, counterclockwise.
-PARABOLA = [(i, i * i - 8000) for i in range(-127, 129)]
 ROUND = numbers(PARABOLA)
 RAISED = numbers([(x, y + 100) for x, y in PARABOLA])
 TURNED_OVER = numbers(opposite(PARABOLA))
@@ -165,18 +166,20 @@ REFUSED = [
     (b"3 0 0 -0 00 0 0 0", "refused A 5 0"),
     (text(TRIANGLE, [0, 0, 0, 4, 4, 0, 4, 0]), "refused B 5 2"),
     (text(TRIANGLE, ROUND[:-2] + ROUND[:2]), "refused B 5 255"),
-    # A corner not strictly left of an edge: the star, a straight corner, clockwise, a dent, the lowest corner by number (corner 4 comes
-    # sooner after the edge), a triangle walked twice, the last but one of 256 corners straight.
+    # Neither counterclockwise nor clockwise: the star, a straight corner, a dent, the lowest corner by number (corner 4
+    # comes sooner after the edge), a triangle walked twice, the last but one of 256 corners straight. Among them stands
+    # a clockwise list, as A and as B, which is taken.
     (text(STAR, SQUARE), "refused A 6 0 3"),
     (text(STRAIGHT, SQUARE), "refused A 6 0 2"),
-    (text(CLOCKWISE, SQUARE), "refused A 6 0 2"),
+    (text(CLOCKWISE, SQUARE),
+     "gap 256/32, mm 3, from A 0, to within at 0/1 0/1, from B 2, to edge 1 at 64/32 64/32, steps 7"),
     (text([0, 0, 4, 0, 3, 2, 4, 4, 0, 4], SQUARE), "refused A 6 1 3"),
     (text([0, 0, 4, 0, 4, 4, 1, 1, 0, 4], SQUARE), "refused A 6 2 0"),
     (text([0, 0, 4, 0, 4, 4, 0, 4, 1, 1], SQUARE), "refused A 6 3 0"),
     (text(2 * TRIANGLE, SQUARE), "refused A 6 0 3"),
     (text(ROUND[:-2] + [128, 8382], SQUARE), "refused A 6 253 255"),
     (text(SQUARE, STAR), "refused B 6 0 3"),
-    (text(SQUARE, CLOCKWISE), "refused B 6 0 2"),
+    (text(SQUARE, CLOCKWISE), SAME_AS_EXAMPLE),
     # A and B faulty: A's refusal, also where its number is greater.
     (text(STAR, [0, 0]), "refused A 6 0 3"),
     (text([0, 0, 0, 0, 4, 4], [16001, 0, 4, 0, 0, 4]), "refused A 5 0"),
@@ -193,22 +196,27 @@ UNREADABLE = [
     # A negative count, for A and for B; as no corners, or without its minus, it would be read.
     b"-1 0", b"-3 0 0 4 0 0 4 3 0 0 4 0 0 4", b"-257 x", text(SQUARE) + b" -3 0 0 4 0 0 4", text(SQUARE) + b" -1",
     # Six digits, also for a small number.
-    b"000003 0 0 4 0 0 4 3 0 0 4 0 0 4", b"000257", b"100000", b"3 0 0 4 -000000 0 4 3 0 0 4 0 0 4", text(SQUARE) + b" 000257",
+    b"000003 0 0 4 0 0 4 3 0 0 4 0 0 4", b"000257", b"100000", b"3 0 0 4 -000000 0 4 3 0 0 4 0 0 4",
+    text(SQUARE) + b" 000257",
     # What stands for no number: lone, doubled and misplaced minus, a plus, a part, a power, letters.
-    b"- 0 0", b"3 0 0 - 4 0 0 4", b"3 0 0 --1 0 0 4 3 0 0 4 0 0 4", b"3 0 0 1- 0 0 4 3 0 0 4 0 0 4", b"3 0 0 1-2 0 4 3 0 0 4 0 0 4",
-    b"+3 0 0 4 0 0 4 3 0 0 4 0 0 4", b"3 0 0 4.0 0 0 4 3 0 0 4 0 0 4", b"3 0 0 4e0 0 0 4 3 0 0 4 0 0 4", b"four 0 0", b"0x3 0 0",
+    b"- 0 0", b"3 0 0 - 4 0 0 4", b"3 0 0 --1 0 0 4 3 0 0 4 0 0 4", b"3 0 0 1- 0 0 4 3 0 0 4 0 0 4",
+    b"3 0 0 1-2 0 4 3 0 0 4 0 0 4", b"+3 0 0 4 0 0 4 3 0 0 4 0 0 4", b"3 0 0 4.0 0 0 4 3 0 0 4 0 0 4",
+    b"3 0 0 4e0 0 0 4 3 0 0 4 0 0 4", b"four 0 0", b"0x3 0 0",
     # A count above 256 that is no number.
     b"257x", b"257-", b"257\t0", text(SQUARE) + b" 257x",
     # A fault of the text behind a faulty A, and behind the last number.
     b"2 0 0 1 1 x", EXAMPLE + b"x", EXAMPLE + b" x", EXAMPLE + b" -",
-    # Other bytes between the numbers: tab, the two after the line end, CR before a line end, NUL, comma, the bytes beside the space, and
-    # above 127.
-    *[EXAMPLE.replace(b" ", byte) for byte in (b"\t", b"\v", b"\f", b"\r\n", b"\0", b",", b"\x1f", b"\x21", b"\x80", b"\xa0", b"\xfe")],
+    # Other bytes between the numbers: tab, the two after the line end, CR before a line end, NUL, comma, the bytes
+    # beside the space, and above 127.
+    *[EXAMPLE.replace(b" ", byte) for byte in (b"\t", b"\v", b"\f", b"\r\n", b"\0", b",", b"\x1f", b"\x21")],
+    *[EXAMPLE.replace(b" ", byte) for byte in (b"\x80", b"\xa0", b"\xfe")],
     EXAMPLE + b"\r\n", EXAMPLE + b"\0",
-    # In the place of the last digit: the bytes beside the digits, a digit with its top bit set, a superscript in two encodings.
+    # In the place of the last digit: the bytes beside the digits, a digit with its top bit set, a superscript in two
+    # encodings.
     *[b"3 0 0 4 0 0 4 3 0 0 4 0 0 " + byte for byte in (b"/", b":", b"\xb4", b"\xb2", b"\xc2\xb2")],
     # 16,385 bytes: the example filled up after and before, a count above 256. 16,384 bytes without a separator.
-    EXAMPLE.ljust(LARGEST_INPUT + 1), EXAMPLE.rjust(LARGEST_INPUT + 1), b"257 ".ljust(LARGEST_INPUT + 1), b"4" * LARGEST_INPUT,
+    EXAMPLE.ljust(LARGEST_INPUT + 1), EXAMPLE.rjust(LARGEST_INPUT + 1), b"257 ".ljust(LARGEST_INPUT + 1),
+    b"4" * LARGEST_INPUT,
 ]
 
 SIDES = [
@@ -240,6 +248,42 @@ SIDES = [
      "gap 3600/100, mm 6, from A 3, to edge 0 at 150/125 -175/125, from B 0, to edge 2 at 300/100 100/100, steps 7"),
 ]
 
+ORIENTATIONS = [
+    # A clockwise, both, B; corners and edges have their numbers in the list as given.
+    (text(CLOCKWISE_SQUARE, TRIANGLE), SAME_AS_EXAMPLE),
+    (text(CLOCKWISE_SQUARE, CLOCKWISE), SAME_AS_EXAMPLE),
+    # Equal gaps of B: (14,4) has a lower number than (14,0) in the clockwise list.
+    (text(CLOCKWISE_SQUARE, CLOCKWISE_MOVED),
+     "gap 100/1, mm 10, from A 0, to corner 0 at 10/1 0/1, from B 2, to corner 2 at 4/1 4/1, steps 8"),
+    (text(SQUARE, CLOCKWISE_MOVED),
+     "gap 100/1, mm 10, from A 0, to corner 0 at 10/1 0/1, from B 2, to corner 2 at 4/1 4/1, steps 8"),
+    # Equal gaps of A: (-1,-1) has a lower number than (-1,1).
+    (text(ABOUT, ABOUT_MOVED),
+     "gap 100/1, mm 10, from A 1, to corner 1 at 9/1 -1/1, from B 0, to corner 0 at 1/1 -1/1, steps 8"),
+    # Equal gaps of (4,4) and (-2,-2): counterclockwise, its reversal, clockwise from the same corner.
+    (text(FOUR, TRIANGLE),
+     "gap 256/32, mm 3, from A 1, to edge 1 at 64/32 64/32, from B 0, to within at 0/1 0/1, steps 7"),
+    (text([-2, -2, 0, 4, 4, 4, 4, 0], TRIANGLE),
+     "gap 8/1, mm 3, from A 0, to corner 0 at 0/1 0/1, from B 0, to within at 0/1 0/1, steps 7"),
+    (text([4, 0, -2, -2, 0, 4, 4, 4], TRIANGLE),
+     "gap 8/1, mm 3, from A 1, to corner 0 at 0/1 0/1, from B 0, to within at 0/1 0/1, steps 7"),
+    # The last edge of a clockwise list, and edge 0.
+    (text([0, 0, 1, -3, 4, 0], CLOCKWISE),
+     "gap 16/1, mm 4, from A 1, to edge 2 at 16/16 0/16, from B 1, to corner 0 at 0/1 0/1, steps 6"),
+    (text(CLOCKWISE, [0, 0, 0, 4, -3, 1]),
+     "gap 16/1, mm 4, from A 2, to corner 0 at 0/1 0/1, from B 2, to edge 0 at 0/16 16/16, steps 6"),
+    # 256 corners: in the opposite order; clockwise from the same corner.
+    (text(numbers(PARABOLA[::-1]), RAISED),
+     "gap 10000/1, mm 100, from A 128, to corner 127 at 0/1 -7900/1, "
+     "from B 255, to corner 0 at 128/1 8384/1, steps 512"),
+    (text(CLOCKWISE, numbers(clockwise(PARABOLA))),
+     "gap 70240784/1, mm 8381, from A 0, to within at 0/1 0/1, from B 1, to corner 1 at 0/1 4/1, steps 259"),
+    # Clockwise, but walked twice; a star that turns right at each corner, after a clockwise list; a straight corner.
+    (text(2 * CLOCKWISE, SQUARE), "refused A 6 0 2"),
+    (text(CLOCKWISE, [0, 3, 2, -3, -3, 1, 3, 1, -2, -3]), "refused B 6 0 2"),
+    (text(SQUARE, [0, 3, 4, 0, 2, 0, 0, 0]), "refused B 6 0 2"),
+]
+
 # The one case of each program that is fit itself: the example; one whose answer differs in every line; one of which the
 # first 16,384 bytes alone would be answered.
 SINGLE = {
@@ -249,7 +293,7 @@ SINGLE = {
     "fit_long": (EXAMPLE.rjust(LARGEST_INPUT) + b"\n", "unreadable"),
 }
 
-CASES = FEATURES + LAYOUTS + REFUSED + [(case, "unreadable") for case in UNREADABLE] + SIDES
+CASES = FEATURES + LAYOUTS + REFUSED + [(case, "unreadable") for case in UNREADABLE] + SIDES + ORIENTATIONS
 
 
 def kind(said):
@@ -270,6 +314,29 @@ def check_coverage():
     gaps = set(product(("within", "corner", "edge"), repeat=2))
     refusals = {("refused", side, number) for side in "AB" for number in "23456"}
     assert {kind(said) for _, said in CASES} == gaps | refusals | {("unreadable",)}
+    check_orientations()
+
+
+def check_orientations():
+    """Each combination of orientations comes, with the gap of A and with that of B; of clockwise lists a corner that is
+    not 0, a corner, edge 0, the last edge and another."""
+    found = set()
+    for case, said in CASES:
+        if said.startswith("gap"):
+            pair = [corners(one) for one in read(case)]
+            turned = [is_clockwise(piece) for piece in pair]
+            _, _, *lines, _ = said.split(", ")
+            for s, (shown, feature) in enumerate((lines[:2], lines[2:])):
+                _, what, number, *_ = feature.split()
+                if what != "within":
+                    found.add((which(*turned), "AB"[s]))
+                    if turned[s] and not shown.endswith(" 0"):
+                        found.add("corner shown")
+                    if turned[1 - s]:
+                        found.add(what if what == "corner" else f"edge {which_number(int(number), len(pair[1 - s]))}")
+    expected = set(product(("none", "A alone", "B alone", "both"), "AB"))
+    expected |= {"corner shown", "corner", "edge 0", "edge the last", "edge another"}
+    assert found == expected, found ^ expected
 
 
 def printed(case, said):

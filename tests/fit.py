@@ -2,8 +2,9 @@
 
     python3 tests/fit.py SEED COUNT [PROGRAM]
 
-The same seed, from 1 up, gives the same inputs on any machine. PROGRAM is target/bin/fit of the repository if none is named. The exit
-status is 1 if anything differs; the first input that does is shown and stored.
+The same seed, from 1 up, gives the same inputs on any machine. PROGRAM is target/bin/fit of the repository if none is
+named. The exit status is 1 if anything differs; the first input that does is shown and stored. Outlines are of either
+orientation, and so are those with a fault.
 """
 import subprocess
 import sys
@@ -12,8 +13,10 @@ import time
 from collections import Counter
 from pathlib import Path
 
-from fit_reference import LARGEST_INPUT, fit
-from pairs import Random, beside, from_corner, from_edges, large, middling, moved, near_tie, numbers, small
+from fit_reference import LARGEST_INPUT, fit, read
+from pairs import CLOCKWISE_SIDES, Random, beside, from_corner, from_edges, in_orientations, is_clockwise, large
+from pairs import middling, mirrored, moved, near_tie, numbers, small, which
+from reference import corners
 
 PROGRAM = Path(__file__).resolve().parent.parent / "target" / "bin" / "fit"
 # Every 20th input arrives in parts, with pauses, so that reads come short; the longest that a run may take, in seconds.
@@ -25,9 +28,12 @@ WORDS = b"256 257 00257 300 99999 -257 000003 100000 16001 -16001 - --1 1- 1-2 +
 
 
 def pair(random):
-    """Two outlines, mostly accepted: small, middling, large, a near tie, and up to 256 corners."""
+    """Two outlines of any orientations, mostly accepted: with equal gaps, small, middling, large, a near tie, and up to
+    256 corners."""
     way = random.below(40)
-    if way < 20:
+    if way < 4:
+        a, b = mirrored(random)
+    elif way < 20:
         a = small(random)
         b = beside(random, a) if random.below(2) else small(random)
     elif way < 32:
@@ -40,12 +46,14 @@ def pair(random):
     else:
         a = from_edges(random, random.one_of([random.between(25, 255), 256]), 100)
         b = moved(a, random.between(-90, 90), 7) if random.below(2) else from_edges(random, random.between(3, 256), 100)
-    return [from_corner(piece, random.below(len(piece))) for piece in random.one_of([(a, b), (b, a)])]
+    a, b = (from_corner(piece, random.below(len(piece))) for piece in random.one_of([(a, b), (b, a)]))
+    return in_orientations(a, b, random.one_of(CLOCKWISE_SIDES))
 
 
 def spoiled(random, piece):
-    """The outline with a fault: 0 a coordinate beyond the range or at its end, 1 a corner twice, 2 a corner moved by a little, 3 two
-    corners exchanged, 4 clockwise, 5 walked twice, 6 a corner halfway along an edge of the outline doubled, 7 too few corners."""
+    """The outline with a change, which is mostly a fault: 0 a coordinate beyond the range or at its end, 1 a corner
+    twice, 2 a corner moved by a little, 3 two corners exchanged, 4 in the opposite order, which is no fault, 5 walked
+    twice, 6 a corner halfway along an edge of the outline doubled, 7 too few corners."""
     way, k = random.below(8), random.below(len(piece))
     (x, y), (next_x, next_y) = piece[k], piece[(k + 1) % len(piece)]
     if way == 0:
@@ -84,7 +92,8 @@ def laid_out(random, words):
     """The words, split by single spaces or by any separators, which may stand before and after too."""
     if random.below(3) == 0:
         return b" ".join(words)
-    return separators(random, 0) + b"".join(word + separators(random, 1) for word in words[:-1]) + words[-1] + separators(random, 0)
+    before = separators(random, 0) + b"".join(word + separators(random, 1) for word in words[:-1])
+    return before + words[-1] + separators(random, 0)
 
 
 def words_of(random, pieces):
@@ -95,14 +104,16 @@ def damaged_words(random, words, count_of_b):
     """One word changed, removed or inserted, often a count."""
     k = random.one_of([0, count_of_b, random.below(len(words))])
     other = random.one_of(WORDS + [b"%d" % random.between(-4, 9)])
-    return random.one_of([words[:k] + [other] + words[k + 1:], words[:k] + [other] + words[k:], words[:k] + words[k + 1:]])
+    before, after = words[:k], words[k + 1:]
+    return random.one_of([before + [other] + after, before + [other] + words[k:], before + after])
 
 
 def damaged_text(random, text):
     """A byte changed, removed, inserted or doubled, or the text cut."""
     k, byte = random.below(len(text)), bytes([random.one_of(BYTES)])
     before, after = text[:k], text[k + 1:]
-    return random.one_of([before + byte + after, before + after, before + byte + text[k:], text[:k + 1] + text[k:], before, after])
+    inserted, doubled = before + byte + text[k:], text[:k + 1] + text[k:]
+    return random.one_of([before + byte + after, before + after, inserted, doubled, before, after])
 
 
 def filled(random, text):
@@ -121,8 +132,8 @@ def random_bytes(random):
 
 
 def input_of(random):
-    """Of 20 inputs some 9 as they should be, 5 with a fault of an outline, 4 with a fault of the text, sometimes of both, 1 filled up, 1 of
-    bytes alone."""
+    """Of 20 inputs some 9 as they should be, 5 with a fault of an outline, 4 with a fault of the text, sometimes of
+    both, 1 filled up, 1 of bytes alone."""
     way = random.below(20)
     if way == 19:
         return random_bytes(random)
@@ -146,7 +157,8 @@ def chunks(random, data):
 
 
 def run(program, parts):
-    """What the program writes, what it writes to standard error, and its exit status. It may stop reading before the last part."""
+    """What the program writes, what it writes to standard error, and its exit status. It may stop reading before the
+    last part."""
     pipe = subprocess.PIPE
     with subprocess.Popen([program], stdin=pipe, stdout=pipe, stderr=pipe, bufsize=0) as process:
         try:
@@ -172,13 +184,16 @@ def show(name, data, expected, found):
         print(f"{which} {out!r}, standard error {err!r}, exit status {status}")
 
 
-def kinds(printed):
-    """The kind of a response, and the same with the features for A's corner and B's, or with the side and number of a
-    refusal."""
+def kinds(data, printed):
+    """The kind of a response, and the same with the features for A's corner and B's and with the sides that are
+    clockwise, or with the side and number of a refusal."""
     words = printed.decode().split()
     to = [f"to {feature}" for word, feature in zip(words, words[1:]) if word == "to"]
     closer = {"gap": to, "refused": words[1:3], "unreadable": []}[words[0]]
-    return {words[0], " ".join(words[:1] + closer)}
+    found = {words[0], " ".join(words[:1] + closer)}
+    if words[0] == "gap":
+        found.add(f"gap clockwise {which(*(is_clockwise(corners(one)) for one in read(data)))}")
+    return found
 
 
 def main(seed, count, program=PROGRAM):
@@ -187,7 +202,7 @@ def main(seed, count, program=PROGRAM):
     for number in range(1, count + 1):
         data = input_of(random)
         expected = (fit(data), b"", 0)
-        responses.update(kinds(expected[0]))
+        responses.update(kinds(data, expected[0]))
         found = run(program, chunks(random, data) if number % CHUNKED == 0 else [data])
         if found != expected:
             failed += 1

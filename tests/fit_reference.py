@@ -2,7 +2,7 @@
 it must write.
 
 Written apart from the proved code, for comparison with it. Comparing is `reference.py`'s, every corner against every
-edge.
+edge; it takes a list of either orientation, and names corners and edges by the list as given.
 """
 import re
 

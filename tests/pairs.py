@@ -4,14 +4,19 @@ crates/pairs/stdout.
 Run without arguments from anywhere. The same seed gives the same files, on any machine: whole numbers only, and a
 generator of its own. The input has, for each pair, how many numbers A's list has and the numbers, the same of B's, and
 how many allowances there are and these. The script prints how many pairs and answers there are, and of which kinds.
+
+The pairs of `of_orientations`, which come last, have lists of either orientation; of those before only one list is
+clockwise. Every answer for a clockwise list is compared with that for the same outline listed counterclockwise from the
+same corner, and every accepted pair with the lists in the opposite order.
 """
 from collections import Counter
 from functools import cmp_to_key
+from itertools import product
 from math import gcd, isqrt
 from pathlib import Path
 
-from reference import DONE, LIMIT, SPENT, Comparing, Fraction, compare, compare_all, corners, half, is_within
-from reference import refusal, side_number
+from reference import DONE, LIMIT, SPENT, Comparing, Fraction, check_reversal, compare, compare_all, corners
+from reference import default_refusal, edge, half, is_within, refusal, side_number
 
 SEED = 20261115
 LARGEST_ALLOWANCE = 2**32 - 1
@@ -95,6 +100,16 @@ def from_corner(piece, k):
     return piece[k:] + piece[:k]
 
 
+def clockwise(piece):
+    """The same outline in the other orientation, listed from the same corner: clockwise, if it was counterclockwise."""
+    return piece[:1] + piece[:0:-1]
+
+
+def is_clockwise(piece):
+    """Of an accepted list of corners: corner 2 is right of edge 0."""
+    return side_number(piece[0], piece[1], piece[2]) < 0
+
+
 def opposite(piece):
     """The outline turned by half a turn."""
     return [(-x, -y) for x, y in piece]
@@ -122,8 +137,9 @@ def large(random):
 
 
 def beside(random, piece):
-    """A second outline: 0 mostly apart, 1 the same moved, 2 the same enlarged, 3 turned by half a turn (parallel edges), 4 the same,
-    5 touching at a corner, 6 with a corner less, 7 the same with corners moved by one, 8 another one over it."""
+    """A second outline: 0 mostly apart, 1 the same moved, 2 the same enlarged, 3 turned by half a turn (parallel
+    edges), 4 the same, 5 touching at a corner, 6 with a corner less, 7 the same with corners moved by one, 8 another
+    one over it."""
     way = random.below(9)
     reach = max(max(abs(x), abs(y)) for x, y in piece)
     if way == 0:
@@ -199,7 +215,8 @@ def two_greatest(a, b, corners):
 
 
 def convergents(upper, lower):
-    """Pairs s, t with s/t close to the root of upper/lower: the convergents of its continued fraction, of 10^4 to 10^8."""
+    """Pairs s, t with s/t close to the root of upper/lower: the convergents of its continued fraction, of 10^4 to
+    10^8."""
     found = []
     root, scale = isqrt(upper * lower << 128), lower << 64
     s, t, last_s, last_t = 1, 0, 0, 1
@@ -254,12 +271,21 @@ UPPER = [16000, 16000, 15999, 16000, 16000, 15999]
 MOVED = [10, 0, 14, 0, 14, 4, 10, 4]
 TURNED = SQUARE[2:] + SQUARE[:2]
 STRAIGHT = [0, 0, 2, 0, 4, 0, 0, 3]
+# The triangle, the square and the square moved, clockwise.
 CLOCKWISE = [0, 0, 0, 4, 4, 0]
+CLOCKWISE_SQUARE = [0, 0, 0, 4, 4, 4, 4, 0]
+CLOCKWISE_MOVED = [10, 0, 10, 4, 14, 4, 14, 0]
 STAR = [0, 3, -2, -3, 3, 1, -3, 1, 2, -3]
 LARGEST = [-16000, -16000, 16000, -16000, 16000, 16000, -16000, 16000]
 
 
-# The values of the specification's examples.
+# Four corners with two equal gaps to the triangle, 256/32 and 8/1; the clockwise square about the origin, from two of
+# its corners, and the same moved.
+FOUR = [4, 0, 4, 4, 0, 4, -2, -2]
+ABOUT, ABOUT_FROM_LATER = [1, -1, -1, -1, -1, 1, 1, 1], [-1, 1, 1, 1, 1, -1, -1, -1]
+ABOUT_MOVED = [11, -1, 9, -1, 9, 1, 11, 1]
+
+# The values of the specification's examples, and of clockwise lists.
 S_TO_T = "A 2 edge 1 256/32 64/32 64/32"
 T_TO_S = "B 2 edge 1 256/32 64/32 64/32"
 S_TO_MOVED = "A 0 corner 0 100/1 10/1 0/1"
@@ -281,7 +307,48 @@ STATED = [
     (LOWER, UPPER, 6, f"done 6 {LOWER_TO_UPPER} 45255 {LOWER_TO_UPPER} B 0 edge 1 4095872001/2 -31999/2 -31999/2"),
     (STAR, SQUARE, 0, "refused A 6 0 3"),
     (STRAIGHT, SQUARE, 0, "refused A 6 0 2"),
-    (SQUARE, CLOCKWISE, 0, "refused B 6 0 2"),
+    # Clockwise T: corners 1 and 2 are exchanged, and so are edges 0 and 2. Clockwise S: corners 1 and 3.
+    (SQUARE, CLOCKWISE, 0, "spent 0 0 0 none none none"),
+    (SQUARE, CLOCKWISE, 2, "spent 2 1 2 none none none"),
+    (SQUARE, CLOCKWISE, 3, "spent 3 2 2 none none none"),
+    (SQUARE, CLOCKWISE, 4, f"spent 4 2 1 {S_TO_T} {S_TO_T} none"),
+    (SQUARE, CLOCKWISE, 7, f"done 7 {S_TO_T} 3 {S_TO_T} {B_WITHIN}"),
+    (CLOCKWISE, SQUARE, 4, f"spent 4 1 2 {T_TO_S} none {T_TO_S}"),
+    (CLOCKWISE, SQUARE, 7, f"done 7 {T_TO_S} 3 {A_WITHIN} {T_TO_S}"),
+    (CLOCKWISE_SQUARE, TRIANGLE, 1, "spent 1 3 0 none none none"),
+    (CLOCKWISE_SQUARE, TRIANGLE, 5, f"spent 5 1 2 {S_TO_T} {S_TO_T} none"),
+    (CLOCKWISE_SQUARE, CLOCKWISE, 2, "spent 2 3 2 none none none"),
+    (CLOCKWISE_SQUARE, CLOCKWISE, 4, f"spent 4 2 1 {S_TO_T} {S_TO_T} none"),
+    (CLOCKWISE_SQUARE, CLOCKWISE, 7, f"done 7 {S_TO_T} 3 {S_TO_T} {B_WITHIN}"),
+    (CLOCKWISE_SQUARE, SQUARE, 8, f"done 8 {A_WITHIN} 0 {A_WITHIN} {B_WITHIN}"),
+    (CLOCKWISE, CLOCKWISE, 6, f"done 6 {A_WITHIN} 0 {A_WITHIN} {B_WITHIN}"),
+    # Of B's corners (14,0) and (14,4) the second has the lower number, and not as held.
+    (CLOCKWISE_SQUARE, CLOCKWISE_MOVED, 1, f"spent 1 3 0 {S_TO_MOVED} {S_TO_MOVED} B 0 corner 3 36/1 4/1 0/1"),
+    (CLOCKWISE_SQUARE, CLOCKWISE_MOVED, 8, f"done 8 {S_TO_MOVED} 10 {S_TO_MOVED} B 2 corner 2 100/1 4/1 4/1"),
+    # Of A's corners (-1,-1) and (-1,1) the first has the lower number, and not as held; then the second, which is
+    # counted later.
+    (ABOUT, ABOUT_MOVED, 8, "done 8 A 1 corner 1 100/1 9/1 -1/1 10 A 1 corner 1 100/1 9/1 -1/1 "
+     "B 0 corner 0 100/1 1/1 -1/1"),
+    (ABOUT_FROM_LATER, ABOUT_MOVED, 1, "spent 1 2 1 A 3 corner 1 100/1 9/1 -1/1 A 3 corner 1 100/1 9/1 -1/1 "
+     "B 1 corner 2 64/1 1/1 -1/1"),
+    (ABOUT_FROM_LATER, ABOUT_MOVED, 8, "done 8 A 0 corner 2 100/1 9/1 1/1 10 A 0 corner 2 100/1 9/1 1/1 "
+     "B 0 corner 2 100/1 1/1 -1/1"),
+    # Two equal gaps, of (4,4) and (-2,-2): counterclockwise; its reversal; clockwise from the same corner.
+    (FOUR, TRIANGLE, 7, f"done 7 A 1 edge 1 256/32 64/32 64/32 3 A 1 edge 1 256/32 64/32 64/32 {B_WITHIN}"),
+    ([-2, -2, 0, 4, 4, 4, 4, 0], TRIANGLE, 7, f"done 7 A 0 corner 0 8/1 0/1 0/1 3 A 0 corner 0 8/1 0/1 0/1 {B_WITHIN}"),
+    ([4, 0, -2, -2, 0, 4, 4, 4], TRIANGLE, 7, f"done 7 A 1 corner 0 8/1 0/1 0/1 3 A 1 corner 0 8/1 0/1 0/1 {B_WITHIN}"),
+    # The last edge of a clockwise list, and edge 0.
+    ([0, 0, 1, -3, 4, 0], CLOCKWISE, 6, "done 6 B 1 corner 0 16/1 0/1 0/1 4 A 1 edge 2 144/16 16/16 0/16 "
+     "B 1 corner 0 16/1 0/1 0/1"),
+    ([0, 0, 0, 4, -3, 1], CLOCKWISE, 6, "done 6 B 2 corner 0 16/1 0/1 0/1 4 A 2 edge 0 144/16 0/16 16/16 "
+     "B 2 corner 0 16/1 0/1 0/1"),
+    # Clockwise, with a fault.
+    ([0, 0, 0, 4, 0, 4, 4, 0], SQUARE, 0, "refused A 5 1"),
+    ([0, 3, 4, 0, 2, 0, 0, 0], SQUARE, 0, "refused A 6 0 2"),
+    ([0, 3, 2, -3, -3, 1, 3, 1, -2, -3], SQUARE, 0, "refused A 6 0 2"),
+    (CLOCKWISE_SQUARE, 2 * CLOCKWISE, 0, "refused B 6 0 2"),
+    (CLOCKWISE, [0, 0, 0, 16001, 4, 0], 0, "refused B 4 1"),
+    (CLOCKWISE, CLOCKWISE + [4], 0, "refused B 1"),
 ]
 
 # Pairs for what the two sides show, which are taken exchanged too, all allowances each.
@@ -330,6 +397,40 @@ SIDES = [
 ]
 # How many near ties of the two sides.
 NEAR_TIES_OF_SIDES = 12
+
+# 256 corners on a parabola, counterclockwise.
+PARABOLA = [(i, i * i - 8000) for i in range(-127, 129)]
+# Lists that are clockwise but for a fault, or of no orientation, and how each is refused.
+FAULTY = [
+    (CLOCKWISE + [0], "1"),
+    ([0, 0, 0, 4], "2"),
+    (numbers(clockwise([(-128, 8384)] + PARABOLA)), "3"),
+    ([0, 0, 0, 16001, 4, 0], "4 1"),
+    ([0, 0, 0, 4, 4, -16001, 4, -16001], "4 2"),
+    # A corner repeated, the last against corner 0 too.
+    ([0, 0, 0, 4, 0, 4, 4, 0], "5 1"),
+    ([0, 0, 0, 4, 4, 0, 0, 0], "5 3"),
+    # A straight corner, at each place in turn; three corners in a line; the line walked to and fro.
+    ([0, 3, 4, 0, 2, 0, 0, 0], "6 0 2"),
+    ([4, 0, 2, 0, 0, 0, 0, 3], "6 0 2"),
+    ([2, 0, 0, 0, 0, 3, 4, 0], "6 0 2"),
+    ([0, 0, 0, 3, 4, 0, 2, 0], "6 0 2"),
+    ([0, 0, 1, 1, 2, 2], "6 0 2"),
+    ([0, 0, 4, 4, 2, 2, 1, 1], "6 0 2"),
+    # The star, which turns right at each corner; the triangle walked twice; a dent; a corner left of edge 0; two that
+    # cross themselves, the second of which has all corners left of edge 0.
+    ([0, 3, 2, -3, -3, 1, 3, 1, -2, -3], "6 0 2"),
+    (2 * CLOCKWISE, "6 0 2"),
+    ([0, 0, 0, 4, 4, 4, 3, 2, 4, 0], "6 0 2"),
+    ([0, 0, 0, 4, -2, 2, 4, 4, 4, 0], "6 0 3"),
+    ([0, 0, 4, 4, 4, 0, 0, 4], "6 0 2"),
+    ([0, 0, 4, 0, 0, 4, 4, 4], "6 1 3"),
+]
+
+# Which of the two lists are clockwise; examples, for each of these.
+CLOCKWISE_SIDES = [(False, False), (True, False), (False, True), (True, True)]
+EXAMPLES = [(SQUARE, TRIANGLE), (TRIANGLE, SQUARE), (SQUARE, MOVED), (SQUARE, SQUARE), (SQUARE, TURNED), (LOWER, UPPER),
+            (LARGEST, SQUARE), (FOUR, TRIANGLE)]
 
 
 # Gaps at and beside the square k² of a whole number, with the clearance. A square moved: k², k² + 1, k² - 1.
@@ -429,6 +530,97 @@ def of_sides(random):
         yield numbers(a), numbers(b)
 
 
+def in_orientations(a, b, clockwise_sides):
+    """The pair, each outline clockwise or not."""
+    return [clockwise(piece) if turned else piece for piece, turned in zip((a, b), clockwise_sides)]
+
+
+def mirrored(random):
+    """Two outlines that are their own mirror images, on one axis, so that gaps are equal two by two."""
+
+    def one():
+        reach = random.one_of([3, 6, 12])
+        points = [(random.between(-reach, reach), random.between(1, reach)) for _ in range(random.between(2, 5))]
+        return hull([(x, z) for x, y in points for z in (y, -y)])
+
+    while True:
+        a, b = one(), moved(one(), random.between(-15, 15), 0)
+        if len(a) >= 3 and len(b) >= 3:
+            return [[(y, x) for x, y in piece][::-1] for piece in (a, b)] if random.below(2) else [a, b]
+
+
+def ties(random):
+    """Pairs with equal gaps, which the numbers as given decide: of each list from each corner."""
+    about, about_moved = (corners(one) for one in (ABOUT, ABOUT_MOVED))
+    for k, other in product(range(4), repeat=2):
+        yield from_corner(about, k), from_corner(about_moved, other)
+    for k in range(4):
+        yield from_corner(clockwise(about), k), from_corner(about_moved, k)
+        yield from_corner(about, k), from_corner(clockwise(about_moved), k)
+        one = from_corner(corners(FOUR), k)
+        yield one[::-1], corners(TRIANGLE)
+        yield corners(TRIANGLE), one[::-1]
+        yield one[::-1], corners(CLOCKWISE)
+        yield clockwise(one), clockwise(moved(one, 5, 3))
+    for number in range(48):
+        a, b = mirrored(random)
+        a, b = from_corner(a, random.below(len(a))), from_corner(b, random.below(len(b)))
+        yield in_orientations(a, b, CLOCKWISE_SIDES[number % 3 + 1])
+
+
+def generated_in_orientations(random):
+    """Random pairs, as `generated` makes them."""
+    for _ in range(200):
+        a = small(random)
+        yield a, beside(random, a) if random.below(2) else small(random)
+    for _ in range(120):
+        a = middling(random)
+        yield a, beside(random, a) if random.below(3) else middling(random)
+    for _ in range(40):
+        yield large(random), large(random)
+    for _ in range(12):
+        a, b = near_tie(random)
+        yield (a, b) if random.below(2) else (b, a)
+    for _ in range(8):
+        yield near_tie_of_sides(random)
+
+
+def of_orientations(random):
+    """Pairs of which one list or both are clockwise, and some of which none is."""
+
+    def every(a, b):
+        return numbers(a), numbers(b), list(range(len(a) + len(b) + 2))
+
+    for a, b in EXAMPLES:
+        for sides in CLOCKWISE_SIDES[1:]:
+            *lists, to_the_edges = every(*in_orientations(corners(a), corners(b), sides))
+            yield *lists, to_the_edges + [512, LARGEST_ALLOWANCE]
+    for one, _ in FAULTY:
+        for a, b in ((one, SQUARE), (one, CLOCKWISE_SQUARE), (SQUARE, one), (CLOCKWISE_SQUARE, one)):
+            # The longest list, once as A and once as B.
+            if len(one) < 100 or CLOCKWISE_SQUARE in (a, b):
+                yield a, b, [0, LARGEST_ALLOWANCE]
+    for a, b in ties(random):
+        yield every(a, b)
+    for number, (a, b) in enumerate(SIDES):
+        for sides in CLOCKWISE_SIDES[1:]:
+            pair = [corners(a), corners(b)]
+            yield every(*in_orientations(*(pair if number % 2 else pair[::-1]), sides))
+    for number, (a, b) in enumerate(generated_in_orientations(random)):
+        a, b = from_corner(a, random.below(len(a))), from_corner(b, random.below(len(b)))
+        a, b = (numbers(piece) for piece in in_orientations(a, b, CLOCKWISE_SIDES[number % 4]))
+        if not (default_refusal(a) or default_refusal(b)):
+            yield a, b, allowances(random, a, b)
+    for number, count in enumerate((64, 255, 256, 256, 256)):
+        a = from_edges(random, count, 100)
+        b = moved(a, random.between(-900, 900), 7) if number % 2 else from_edges(random, random.one_of([3, 40]), 100)
+        a = from_corner(a, random.below(len(a)))
+        a, b = (numbers(piece) for piece in in_orientations(a, b, CLOCKWISE_SIDES[number % 3 + 1]))
+        yield a, b, allowances(random, a, b)
+    yield numbers(clockwise(PARABOLA)), CLOCKWISE, [0, 130, 258, 259]
+    yield CLOCKWISE, numbers(PARABOLA[::-1]), [0, 130, 258, 259]
+
+
 def pairs():
     random = Random(SEED)
     yield from worked()
@@ -441,10 +633,12 @@ def pairs():
         yield numbers(a), numbers(b), [len(a) + len(b)]
     for a, b in of_sides(random):
         yield a, b, list(range((len(a) + len(b)) // 2 + 1))
+    yield from of_orientations(random)
 
 
 def position(a, b):
     """Where two accepted outlines lie: the same, one in the other, overlapping by a corner, or apart or crossing."""
+    a, b = (clockwise(piece) if is_clockwise(piece) else piece for piece in (a, b))
     a_within, b_within = [is_within(v, b) for v in a], [is_within(v, a) for v in b]
     if all(a_within) and all(b_within):
         return "same"
@@ -522,9 +716,109 @@ def check_sides(counted):
     assert min(counted.values()) >= 3, counted
 
 
+def located(shown, a, b):
+    """A shown corner without its numbers: its side and place, the kind and the corners of its feature, the gap, and the
+    nearest point. The lists are of corners, as given."""
+    side, corner, *feature, gap, x, y = shown.split()
+    own, other = (a, b) if side == "A" else (b, a)
+    made_of = []
+    if feature[0] != "within":
+        number = int(feature[1])
+        made_of = sorted(edge(other, number)) if feature[0] == "edge" else [other[number]]
+    return side, own[int(corner)], feature[0], made_of, gap, x, y
+
+
+def check_as_held(text, held_text, pair, held_pair):
+    """An answer for a pair, and that for the pair of the lists as they are held: steps, support corners, clearance and
+    nearest points are the same. A corner differs only where its gap is equal: yields the sides of such."""
+    assert text.split()[:2] == held_text.split()[:2]
+    if text.startswith("spent"):
+        (_, *support, overall, a, b), (_, *held_support, held_overall, held_a, held_b) = (
+            SPENT.fullmatch(one).groups() for one in (text, held_text))
+        assert [piece[int(i)] for piece, i in zip(pair, support)] == [
+            piece[int(i)] for piece, i in zip(held_pair, held_support)]
+    else:
+        (_, overall, clearance, a, b), (_, held_overall, held_clearance, held_a, held_b) = (
+            DONE.fullmatch(one).groups() for one in (text, held_text))
+        assert clearance == held_clearance
+    for name, one, held in (("overall", overall, held_overall), ("A", a, held_a), ("B", b, held_b)):
+        assert (one == "none") == (held == "none")
+        if one != "none" and located(one, *pair) != located(held, *held_pair):
+            assert one[0] == held[0] and gap_of(one) == gap_of(held) and gap_of(one).upper > 0
+            assert located(one, *pair)[1] != located(held, *held_pair)[1]
+            yield name
+
+
+def which_number(number, count):
+    return "0" if number == 0 else "the last" if number == count - 1 else "another"
+
+
+def orientation_kinds(text, pair):
+    """What is to be counted of a text: the orientations and the side named; of clockwise lists which corners are shown,
+    and which features are named."""
+    kind = text.split()[0]
+    groups = (SPENT if kind == "spent" else DONE).fullmatch(text).groups()
+    overall, sides = groups[3 if kind == "spent" else 1], groups[-2:]
+    turned = [is_clockwise(piece) for piece in pair]
+    yield f"clockwise: {which(*turned)}; {kind}, named: {overall[0] if overall != 'none' else 'none'}"
+    for s, shown in enumerate(sides):
+        if shown != "none":
+            _, corner, feature, *number = shown.split()[:4]
+            if turned[s] and feature != "within":
+                yield f"{kind}, of clockwise {'AB'[s]}: corner {which_number(int(corner), len(pair[s]))}"
+            if turned[1 - s]:
+                count = len(pair[1 - s])
+                place = "" if feature == "within" else f" {which_number(int(number[0]), count)}"
+                yield f"{kind}, on clockwise {'BA'[s]}: {feature}{place}"
+
+
+def count_orientations(given, answers):
+    """Counts the kinds, and holds every pair against its reversals, and every pair with a clockwise list against the
+    lists as held."""
+    counted = Counter()
+    for (a, b, allowances), texts in zip(given, answers):
+        if texts[0].startswith("refused"):
+            continue
+        pair = corners(a), corners(b)
+        turned = [is_clockwise(piece) for piece in pair]
+        assert turned == [refusal(one) is not None for one in (a, b)]
+        check_reversal(*pair)
+        for text in texts:
+            counted.update(orientation_kinds(text, pair))
+        if any(turned):
+            held_pair = in_orientations(*pair, turned)
+            held_texts = compare_all(*map(numbers, held_pair), allowances)
+            for text, held_text in zip(texts, held_texts):
+                for name in check_as_held(text, held_text, pair, held_pair):
+                    counted[f"{text.split()[0]}, a tie that the numbers as held decide otherwise: {name}"] += 1
+            spent = [text for text in texts if text.startswith("spent")]
+            for before, after in zip(spent, spent[1:]):
+                if int(after.split()[1]) == int(before.split()[1]) + 1:
+                    for kind in step_kinds(before, after):
+                        if kind[-1] in "AB" and turned["AB".index(kind[-1])]:
+                            counted[f"{kind}, clockwise"] += 1
+    return counted
+
+
+def check_orientations(counted):
+    """Every kind comes, and often enough."""
+    combinations, both = ("none", "A alone", "B alone", "both"), ("done", "spent")
+    kinds = {f"clockwise: {one}; {kind}, named: {side}" for one in combinations for kind in both for side in "AB"}
+    kinds |= {f"clockwise: {one}; spent, named: none" for one in combinations}
+    for kind, side, number in product(both, "AB", ("0", "the last", "another")):
+        kinds |= {f"{kind}, of clockwise {side}: corner {number}"}
+        kinds |= {f"{kind}, on clockwise {side}: {feature} {number}" for feature in ("corner", "edge")}
+    kinds |= {f"done, on clockwise {side}: within" for side in "AB"}
+    tie = "a tie that the numbers as held decide otherwise"
+    kinds |= {f"{kind}, {tie}: {name}" for kind in both for name in ("overall", "A", "B")}
+    kinds |= {f"a step, of equals the one counted later stands: {side}, clockwise" for side in "AB"}
+    assert set(counted) == kinds, set(counted) ^ kinds
+    assert min(counted.values()) >= 3, counted
+
+
 def check_coverage(given, answers):
     """The pairs have what they are to have, whatever the seed. The last answer for a pair is done, if accepted."""
-    accepted = [(corners(a), corners(b)) for a, b, _ in given if not (refusal(a) or refusal(b))]
+    accepted = [(corners(a), corners(b)) for a, b, _ in given if not (default_refusal(a) or default_refusal(b))]
     assert len(accepted) >= 2000
     positions = [position(a, b) for a, b in accepted]
     assert all(positions.count(one) >= 100 for one in ("same", "nested", "overlapping", "apart"))
@@ -544,11 +838,15 @@ def main():
     for a, b, clearance in rounded():
         text = compare(numbers(a), numbers(b), 512)
         assert DONE.fullmatch(text).group(3) == str(clearance), (a, b)
+    for one, refused in FAULTY:
+        assert compare(one, SQUARE, 0) == f"refused A {refused}" and compare(SQUARE, one, 9) == f"refused B {refused}"
     given = list(pairs())
     answers = [compare_all(*one) for one in given]
     check_coverage(given, answers)
     counted = count_sides(given, answers)
     check_sides(counted)
+    orientations = count_orientations(given, answers)
+    check_orientations(orientations)
     crate = Path(__file__).resolve().parent.parent / "crates" / "pairs"
     lines = [" ".join(map(str, (len(part), *part))) for one in given for part in one]
     stdin = "".join(f"{line}\n" for line in lines).encode()
@@ -556,7 +854,7 @@ def main():
     (crate / "stdin").write_bytes(stdin)
     (crate / "stdout").write_bytes("".join(f"{text}\n" for texts in answers for text in texts).encode())
     print(f"{len(given)} pairs, {sum(map(len, answers))} answers")
-    for kind, count in sorted(counted.items()):
+    for kind, count in sorted(counted.items()) + sorted(orientations.items()):
         print(f"{count:6} {kind}")
 
 

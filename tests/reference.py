@@ -6,6 +6,11 @@ gives the text that the program `pairs` prints for them:
     spent STEPS A-CORNER B-CORNER WORST A-WORST B-WORST
     done STEPS ANSWER CLEARANCE A-ANSWER B-ANSWER
 Each answer is SIDE CORNER FEATURE GAP X Y, and each worst so far that or `none`: the overall one, then A's and B's.
+
+There are two readings of a list. `refusal` is the strict one, which takes counterclockwise lists alone. Comparing has
+the default one, `default_refusal`, which takes either orientation. A clockwise list is held as corner 0 followed by the
+rest reversed. What is computed is computed on the list as held; every corner and every edge that is named, support
+corners too, has its number in the list as given, and so have the ties and the order of the exhaustive search.
 """
 import re
 from functools import cmp_to_key
@@ -39,8 +44,23 @@ def corners(numbers):
     return [(numbers[i], numbers[i + 1]) for i in range(0, len(numbers) - 1, 2)]
 
 
-def refusal(numbers):
-    """The number and the place of the refusal of a list, or None where it is accepted."""
+LEFT, RIGHT = 1, -1
+
+
+def misplaced(piece, side):
+    """The lowest edge with a corner, other than its ends, that is not strictly on this side of it, and its lowest such
+    corner; or None."""
+    n = len(piece)
+    for i in range(n):
+        p, q = edge(piece, i)
+        for c in range(n):
+            if c != i and c != (i + 1) % n and side * side_number(p, q, piece[c]) <= 0:
+                return i, c
+    return None
+
+
+def list_refusal(numbers):
+    """Refusals 1 to 5, for which the orientation does not matter: the number and the place, or None."""
     if len(numbers) % 2 == 1:
         return (1,)
     piece = corners(numbers)
@@ -56,12 +76,47 @@ def refusal(numbers):
         p, q = edge(piece, i)
         if p == q:
             return (5, i)
-    for i in range(n):
-        p, q = edge(piece, i)
-        for c in range(n):
-            if c != i and c != (i + 1) % n and side_number(p, q, piece[c]) <= 0:
-                return (6, i, c)
     return None
+
+
+def refusal(numbers):
+    """The number and the place of the refusal of a list in the strict reading, or None where it is accepted."""
+    found = list_refusal(numbers)
+    if found:
+        return found
+    place = misplaced(corners(numbers), LEFT)
+    return (6, *place) if place else None
+
+
+def default_refusal(numbers):
+    """The same in the default reading: 6 only for a list that fits neither orientation, its place as in the strict
+    one."""
+    strict = refusal(numbers)
+    if strict is None or strict[0] != 6:
+        return strict
+    return strict if misplaced(corners(numbers), RIGHT) else None
+
+
+class Outline:
+    """The corners of a list that the default reading accepts, as given and as held, and which numbers the corners and
+    edges held have in the list as given."""
+
+    def __init__(self, piece):
+        n = len(piece)
+        fits = [side for side in (LEFT, RIGHT) if misplaced(piece, side) is None]
+        assert n >= 3 and len(fits) == 1, "an accepted list fits one orientation and not the other"
+        self.given, self.clockwise = piece, fits == [RIGHT]
+        numbered = list(enumerate(piece))
+        if self.clockwise:
+            numbered = numbered[:1] + numbered[:0:-1]
+        self.corner_numbers, self.held = ([one[part] for one in numbered] for part in (0, 1))
+        assert misplaced(self.held, LEFT) is None, "an outline is held counterclockwise"
+        # An edge as given joins a corner to the following one; the edge as held that joins the same two is that edge.
+        joining = {frozenset(edge(range(n), i)): i for i in range(n)}
+        self.edge_numbers = [joining[frozenset(edge(self.corner_numbers, j))] for j in range(n)]
+        for table in (self.corner_numbers, self.edge_numbers):
+            assert [table[i] for i in table] == list(range(n)), "a table of numbers is its own inverse"
+        assert self.corner_numbers[0] == 0, "corner 0 as held is corner 0 as given"
 
 
 class Fraction:
@@ -91,21 +146,23 @@ def is_within(v, piece):
     return all(side_number(*edge(piece, i), v) >= 0 for i in range(len(piece)))
 
 
-def nearest(v, piece):
-    """The exhaustive search for one corner: every corner and every edge of the other piece."""
+def nearest(v, outline):
+    """The exhaustive search for one corner: every corner and every edge of the other outline, as held. The feature has
+    its number as given."""
+    piece = outline.held
     if is_within(v, piece):
         return Nearest("within", Fraction(0, 1), v[0], v[1], 1)
     tried = []
-    for i, c in enumerate(piece):
+    for c, number in zip(piece, outline.corner_numbers):
         to = minus(v, c)
-        tried.append(Nearest(f"corner {i}", Fraction(dot(to, to), 1), c[0], c[1], 1))
-    for i in range(len(piece)):
-        p, q = edge(piece, i)
+        tried.append(Nearest(f"corner {number}", Fraction(dot(to, to), 1), c[0], c[1], 1))
+    for j, number in enumerate(outline.edge_numbers):
+        p, q = edge(piece, j)
         run = minus(q, p)
         length, t, s = dot(run, run), dot(minus(v, p), run), side_number(p, q, v)
         if s < 0 and 0 < t < length:
             x, y = length * p[0] + t * run[0], length * p[1] + t * run[1]
-            tried.append(Nearest(f"edge {i}", Fraction(s * s, length), x, y, length))
+            tried.append(Nearest(f"edge {number}", Fraction(s * s, length), x, y, length))
     least = tried[0]
     for one in tried[1:]:
         if one.gap < least.gap:
@@ -126,7 +183,7 @@ def half(d):
 
 
 def angular_order(pieces):
-    """All edges of A (0) and B (1) as (side, number), by direction; at equal direction A's edge first."""
+    """All edges of A (0) and B (1), as held, as (side, number), by direction; at equal direction A's edge first."""
 
     def later(one, two):
         d, e = (minus(*reversed(edge(pieces[s], i))) for s, i in (one, two))
@@ -167,17 +224,22 @@ def clearance(gap):
 
 
 class Comparing:
-    """An accepted pair, swept step by step."""
+    """An accepted pair of corner lists, swept step by step. The edges go by the lists as held. A corner is (side,
+    number), and its number is that in the list as given."""
 
     def __init__(self, a, b):
-        self.pieces = (a, b)
-        self.order = angular_order(self.pieces)
+        self.outlines = (Outline(a), Outline(b))
+        self.order = angular_order([outline.held for outline in self.outlines])
         self.gaps = {}
 
     def nearest(self, s, i):
         if (s, i) not in self.gaps:
-            self.gaps[s, i] = nearest(self.pieces[s][i], self.pieces[1 - s])
+            self.gaps[s, i] = nearest(self.outlines[s].given[i], self.outlines[1 - s])
         return self.gaps[s, i]
+
+    def corners_of(self, s):
+        """A side's corners, by number."""
+        return [(s, i) for i in range(len(self.outlines[s].given))]
 
     def gap(self, corner):
         return self.nearest(*corner).gap
@@ -194,32 +256,31 @@ class Comparing:
     def sweep(self, steps):
         """The support corners after some steps; the worst so far over both sides at once; that of A, and that of B.
 
-        A worst so far is (side, corner), or None."""
-        support = [next(i for t, i in self.order if t == s) for s in (0, 1)]
+        A worst so far is a corner, or None. The steps go by the support corners as held."""
+        support = [next(j for t, j in self.order if t == s) for s in (0, 1)]
         worst, sides = None, [None, None]
         for side, number in self.order[:steps]:
             for s in (0, 1):
-                corner = (s, support[s])
-                if counts(self.nearest(*corner), self.pieces[1 - s], support[1 - s]):
+                corner = (s, self.outlines[s].corner_numbers[support[s]])
+                if counts(self.nearest(*corner), self.outlines[1 - s].held, support[1 - s]):
                     worst, sides[s] = self.worse(worst, corner), self.worse(sides[s], corner)
-            support[side] = (number + 1) % len(self.pieces[side])
-        return support, worst, sides
+            support[side] = (number + 1) % len(self.outlines[side].held)
+        return [one.corner_numbers[j] for one, j in zip(self.outlines, support)], worst, sides
 
     def exhaustive(self, s):
         """One side: its corner 0 at first; a later corner takes its place only if its gap is greater."""
         worst = (s, 0)
-        for i in range(len(self.pieces[s])):
-            if self.gap(worst) < self.gap((s, i)):
-                worst = (s, i)
+        for corner in self.corners_of(s):
+            if self.gap(worst) < self.gap(corner):
+                worst = corner
         return worst
 
     def exhaustive_at_once(self):
         """Both sides at once: A's corner 0 at first, then A's corners by number, then B's."""
         worst = (0, 0)
-        for s in (0, 1):
-            for i in range(len(self.pieces[s])):
-                if self.gap(worst) < self.gap((s, i)):
-                    worst = (s, i)
+        for corner in self.corners_of(0) + self.corners_of(1):
+            if self.gap(worst) < self.gap(corner):
+                worst = corner
         return worst
 
     def overall(self, sides):
@@ -239,7 +300,7 @@ class Comparing:
     def found(self, allowance):
         """Whether it is done, the steps made, the support corners; the overall answer or worst so far; A's, and B's.
 
-        An answer or worst so far is (side, corner), or None."""
+        An answer or worst so far is a corner, or None. Support corners have their numbers as given."""
         n = len(self.order)
         steps = min(allowance, n)
         support, worst, sides = self.sweep(steps)
@@ -251,8 +312,8 @@ class Comparing:
             return False, steps, support, worst, sides
         for s in (0, 1):
             if sides[s] is None:
-                gaps = [self.gap((s, i)) for i in range(len(self.pieces[s]))]
-                assert all(gap.upper == 0 for gap in gaps), "a side with a gap above 0 was not counted"
+                zero = all(self.gap(corner).upper == 0 for corner in self.corners_of(s))
+                assert zero, "a side with a gap above 0 was not counted"
                 assert self.nearest(s, 0).feature == "within"
                 sides[s] = (s, 0)
         assert sides == true, "the sweep and the exhaustive search of a side differ"
@@ -276,7 +337,7 @@ class Comparing:
 def compare_all(a, b, allowances):
     """The texts for one pair of lists and several allowances."""
     for side, numbers in (("A", a), ("B", b)):
-        found = refusal(numbers)
+        found = default_refusal(numbers)
         if found:
             return [" ".join(map(str, ("refused", side) + found))] * len(allowances)
     comparing = Comparing(corners(a), corners(b))
@@ -285,3 +346,46 @@ def compare_all(a, b, allowances):
 
 def compare(a, b, allowance):
     return compare_all(a, b, [allowance])[0]
+
+
+def feature_corners(near, piece):
+    """The corners that make a feature of a list of corners: none within, its own of a corner, the ends of an edge."""
+    if near.feature == "within":
+        return ()
+    kind, number = near.feature.split()
+    return edge(piece, int(number)) if kind == "edge" else (piece[int(number)],)
+
+
+def check_same_point(one, piece, two, other):
+    """Two answers for one point, of lists that have the same corners in another order: the same gap and nearest point,
+    written alike, and the same feature, by whatever number."""
+    assert (str(one.gap), one.x, one.y, one.lower) == (str(two.gap), two.x, two.y, two.lower), "another nearest point"
+    assert one.feature.split()[0] == two.feature.split()[0], "another kind of feature"
+    assert set(feature_corners(one, piece)) == set(feature_corners(two, other)), "another feature"
+
+
+def check_point_reversal(v, piece):
+    """A point's gap, nearest point and feature do not depend on the orientation."""
+    given, reverse = Outline(piece), Outline(piece[::-1])
+    assert given.clockwise != reverse.clockwise
+    check_same_point(nearest(v, given), piece, nearest(v, reverse), piece[::-1])
+
+
+def check_reversal(a, b):
+    """An accepted pair of corner lists, and the same with the corners of one or both in the opposite order: every
+    corner has the same nearest point; the answers have equal gaps, overall and of each side, and the same clearance,
+    though not always the same corners."""
+    first = Comparing(a, b)
+    steps = len(first.order)
+    _, _, _, overall, sides = first.found(steps)
+    for c, d in ((a[::-1], b), (a, b[::-1]), (a[::-1], b[::-1])):
+        other = Comparing(c, d)
+        for pieces, lists, s in (((a, c), (b, d), 0), ((b, d), (a, c), 1)):
+            for i, v in enumerate(pieces[0]):
+                same = other.nearest(s, pieces[1].index(v))
+                check_same_point(first.nearest(s, i), lists[0], same, lists[1])
+        done, made, _, answer, shown = other.found(steps)
+        assert done and made == steps
+        for one, two in zip([overall] + sides, [answer] + shown):
+            assert one[0] == two[0] and first.gap(one) == other.gap(two), "another gap of the reversed lists"
+        assert clearance(first.gap(overall)) == clearance(other.gap(answer))

@@ -1,5 +1,5 @@
-// `read_outline`, `nearest_point`, `remove_corner` and the three C functions on generated cases (`pairs` runs
-// `compare`). The input has the number of cases, and for each the
+// `read_outline`, `read_outline_strict`, `nearest_point`, `remove_corner` and the three C functions on generated cases
+// (`pairs` runs `compare`). The input has the number of cases, and for each the
 // length of A's list and its numbers, the length of B's list and its numbers, and eight numbers, which `Given`
 // names. Each call prints one line. `tests/call_cases.py` writes the input and, by another way, what is to be
 // printed.
@@ -80,6 +80,7 @@ fn answer_case(a: &[i32], b: &[i32], given: Given) {
         y: given.y,
     };
     rattle_calls::read(a);
+    rattle_calls::read_strict(a);
     rattle_calls::nearest(v, a);
     remove(a, given.corner, given.out_length);
     c_nearest(v, a, given.nearest_length);

@@ -1,18 +1,43 @@
 // The calls in Rattle but `compare`:
-//     read COUNT X Y ..
+//     read ORIENTATION COUNT X Y ..
+//     read_strict COUNT X Y ..
 //     nearest FEATURE GAP X Y
 //     remove done list NUMBER ..
 // A refusal stands after the first word, as `refused NUMBER [PLACE..]`; in removing the list to write follows it.
 use crate::report;
 use nearest::NearestAnswer;
+use outline::Orientation;
 use outline::Verdict;
 use plane::Corner;
+
+fn print_orientation(orientation: Orientation) {
+    match orientation {
+        Orientation::Counterclockwise => print::text(b" counterclockwise"),
+        Orientation::Clockwise => print::text(b" clockwise"),
+    }
+}
 
 pub fn read(a: &[i32]) {
     let reading = calls::read_outline(a);
     let verdict = reading.verdict;
+    let orientation = reading.orientation;
     let outline = reading.outline;
     print::text(b"read");
+    match verdict {
+        Verdict::Taken => {
+            print_orientation(orientation);
+            report::print_outline(outline);
+        }
+        Verdict::Refused(refusal) => report::print_refusal(refusal),
+    }
+    print::text(b"\n");
+}
+
+pub fn read_strict(a: &[i32]) {
+    let reading = calls::read_outline_strict(a);
+    let verdict = reading.verdict;
+    let outline = reading.outline;
+    print::text(b"read_strict");
     match verdict {
         Verdict::Taken => report::print_outline(outline),
         Verdict::Refused(refusal) => report::print_refusal(refusal),

@@ -4,6 +4,7 @@
 use hausdorff::Comparison;
 use nearest::NearestAnswer;
 use nearest::POINT_OUT_OF_RANGE;
+use outline::EitherReading;
 use outline::Place;
 use outline::Reading;
 use outline::Refusal;
@@ -11,10 +12,14 @@ use outline::RefusedSide;
 use outline::Side;
 use outline::Verdict;
 use plane::Corner;
+use projection::answers;
 use reading::checks;
+use reading::corners;
 ghost use mathlib.Core.Path.{_≡_};
 ghost use Rattle.outline.specs.declared.RefusedSide.the-variants.{NoSide};
+ghost use Rattle.outline.specs.EitherReading.{IsEitherReading};
 ghost use Rattle.outline.specs.Reading.{IsReading};
+ghost use Rattle.outline.specs.code.Either.{eitherReading};
 ghost use Rattle.outline.specs.code.Reading.{reading};
 ghost use Rattle.edit.specs.Removal.{IsRemoval};
 ghost use Rattle.edit.specs.code.Removal.{removalVerdict, listAfter};
@@ -23,16 +28,28 @@ ghost use Rattle.nearest.specs.code.Call.{nearestAnswer};
 ghost use Rattle.hausdorff.specs.code.Call.{comparison};
 ghost use Rattle.hausdorff.specs.Call.{IsComparison};
 
-// Reads the outline that the list `s` gives: x and y of corner 0, then of corner 1, and so on.
+// Reads the outline that the list `s` gives: x and y of corner 0, then of corner 1, and so on, in either orientation.
+// The outline is read as it is held, with the orientation of the list beside it: of a clockwise list corner 0, and then
+// the others in the opposite order. Refusals 1 to 6, where 6 is for a list that fits neither orientation; the outline
+// read then has no corners.
+pub fn read_outline(s: &[i32]) -> EitherReading
+    ensures answer { λ r. ⌜ r ≡ eitherReading NoSide (now (s .entry)) ⌝ }
+    ensures rules { λ r. ⌜ IsEitherReading NoSide (now (s .entry)) r ⌝ }
+{
+    reading::read_either(s, RefusedSide::NoSide)
+}
+
+// Reads the outline that the list `s` gives: x and y of corner 0, then of corner 1, and so on, counterclockwise.
 // Refusals 1 to 6; the outline read then has no corners.
-pub fn read_outline(s: &[i32]) -> Reading
+pub fn read_outline_strict(s: &[i32]) -> Reading
     ensures answer { λ r. ⌜ r ≡ reading NoSide (now (s .entry)) ⌝ }
     ensures rules { λ r. ⌜ IsReading NoSide (now (s .entry)) r ⌝ }
 {
     reading::read(s, RefusedSide::NoSide)
 }
 
-// Removes corner k from the outline that the list `s` gives, and writes the other corners to `out`, in their order.
+// Removes corner k from the outline that the counterclockwise list `s` gives, and writes the other corners to `out`, in
+// their order.
 // Refusals 1 to 6, 8, 2 and 9, in this order; `out` is then as it was.
 pub fn remove_corner(s: &[i32], k: usize, out: &mut [i32]) -> Verdict
     ensures answer { λ r. ⌜ r ≡ removalVerdict (now (s .entry)) k (now (out .entry)) ⌝ }
@@ -46,15 +63,13 @@ pub fn remove_corner(s: &[i32], k: usize, out: &mut [i32]) -> Verdict
     Verdict::Taken
 }
 
-// Finds the nearest point, to the point v, of the outline that the list `s` gives.
-// Refusals 1 to 6 for the outline, then 7.
+// Finds the nearest point, to the point v, of the outline that the list `s` gives, in either orientation. The feature is
+// named by the list as given. Refusals 1 to 6 for the outline, then 7.
 pub fn nearest_point(v: Corner, s: &[i32]) -> NearestAnswer
     ensures answer { λ r. ⌜ r ≡ nearestAnswer v (now (s .entry)) ⌝ }
     ensures rules { λ r. ⌜ IsNearestAnswer v (now (s .entry)) r ⌝ }
 {
-    let reading = read_outline(s);
-    let verdict = reading.verdict;
-    if let Verdict::Refused(refusal) = verdict {
+    if let Verdict::Refused(refusal) = checks::check_either(s, RefusedSide::NoSide) {
         return NearestAnswer::Refused(refusal);
     }
     if !plane::in_range(v) {
@@ -64,20 +79,25 @@ pub fn nearest_point(v: Corner, s: &[i32]) -> NearestAnswer
             place: Place::Nowhere,
         });
     }
-    NearestAnswer::Found(projection::nearest(reading.outline, v))
+    let orientation = checks::orientation(s);
+    let nearest = projection::nearest(corners::held(s, orientation), v);
+    NearestAnswer::Found(answers::given_nearest(orientation, corners::count(s), nearest))
 }
 
-// Compares the outlines that the lists `a` and `b` give, in at most `allowance` steps.
+// Compares the outlines that the lists `a` and `b` give, each in either orientation, in at most `allowance` steps.
+// Corners and edges are named by the lists as given.
 // Refusals 1 to 6 for A, then 1 to 6 for B. Being spent is no refusal.
 pub fn compare(a: &[i32], b: &[i32], allowance: u32) -> Comparison
     ensures answer { λ r. ⌜ r ≡ comparison (now (a .entry)) (now (b .entry)) allowance ⌝ }
     ensures rules { λ r. ⌜ IsComparison (now (a .entry)) (now (b .entry)) allowance r ⌝ }
 {
-    if let Verdict::Refused(refusal) = checks::check(a, RefusedSide::Of(Side::A)) {
+    if let Verdict::Refused(refusal) = checks::check_either(a, RefusedSide::Of(Side::A)) {
         return Comparison::Refused(refusal);
     }
-    if let Verdict::Refused(refusal) = checks::check(b, RefusedSide::Of(Side::B)) {
+    if let Verdict::Refused(refusal) = checks::check_either(b, RefusedSide::Of(Side::B)) {
         return Comparison::Refused(refusal);
     }
-    Comparison::Reported(comparing::compare(a, b, allowance))
+    let of_a = checks::orientation(a);
+    let of_b = checks::orientation(b);
+    Comparison::Reported(comparing::compare(a, of_a, b, of_b, allowance))
 }

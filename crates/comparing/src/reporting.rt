@@ -10,17 +10,25 @@ use hausdorff::WorstSoFar;
 use integers::fraction;
 use integers::fraction::Order;
 use integers::root;
+use outline::Orientation;
 use outline::Side;
 use plane::Corner;
 use projection::answers;
+use reading::corners::given_corner;
 use sweep::State;
 ghost use mathlib.Core.Path.{_≡_};
 ghost use Rattle.integers.specs.code.Fraction.{Bounded};
 ghost use Rattle.hausdorff.specs.CornerGap.{worse, overall};
 ghost use Rattle.hausdorff.specs.Law.{orWithin};
 ghost use Rattle.measuring.specs.Changes.{BoundedWorst};
-ghost use Rattle.sweep.specs.State.{BoundedState};
-ghost use Rattle.comparing.specs.ReportOf.{spentOf, doneOf, reportOf};
+ghost use Rattle.comparing.specs.ReportOf.{Reportable, spentOf, doneOf, reportOf};
+
+// What a report needs of a list: its orientation, how many corners it gives, and where corner 0 is.
+pub struct Listed {
+    pub orientation: Orientation,
+    pub count: usize,
+    pub first: Corner,
+}
 
 // The one with the greater gap; the first of equals.
 fn worse(w: CornerGap, z: CornerGap) -> CornerGap
@@ -61,37 +69,39 @@ fn or_within(side: Side, first: Corner, worst: WorstSoFar) -> CornerGap
 }
 
 // What is reported after fewer steps than there are.
-fn spent_of(state: State, steps: u32) -> Spent
-    requires { ⌜ BoundedState state ⌝ }
-    ensures { λ r. ⌜ r ≡ spentOf state steps ⌝ }
+fn spent_of(state: State, steps: u32, listed_a: Listed, listed_b: Listed) -> Spent
+    requires { ⌜ Reportable state «listed_a» «listed_b» ⌝ }
+    ensures { λ r. ⌜ r ≡ spentOf state steps «listed_a» «listed_b» ⌝ }
 {
     let side_a = state.a;
     let side_b = state.b;
     let a = side_a.worst;
     let b = side_b.worst;
     let worst = overall(a, b);
+    let of_a = listed_a.orientation;
+    let of_b = listed_b.orientation;
     Spent {
         steps: steps,
         support: SupportCorners {
-            a: side_a.support,
-            b: side_b.support,
+            a: given_corner(of_a, listed_a.count, side_a.support),
+            b: given_corner(of_b, listed_b.count, side_b.support),
         },
         worst: worst,
         sides: SideWorsts { a, b },
     }
 }
 
-// What is reported after all steps. `first_a` and `first_b` are the corners 0 of A and B.
-fn done_of(state: State, steps: u32, first_a: Corner, first_b: Corner) -> Done
-    requires { ⌜ BoundedState state ⌝ }
-    ensures { λ r. ⌜ r ≡ doneOf state steps «first_a» «first_b» ⌝ }
+// What is reported after all steps.
+fn done_of(state: State, steps: u32, listed_a: Listed, listed_b: Listed) -> Done
+    requires { ⌜ Reportable state «listed_a» «listed_b» ⌝ }
+    ensures { λ r. ⌜ r ≡ doneOf state steps «listed_a» «listed_b» ⌝ }
 {
     let side_a = state.a;
     let side_b = state.b;
     let worst_a = side_a.worst;
     let worst_b = side_b.worst;
-    let a = or_within(Side::A, first_a, worst_a);
-    let b = or_within(Side::B, first_b, worst_b);
+    let a = or_within(Side::A, listed_a.first, worst_a);
+    let b = or_within(Side::B, listed_b.first, worst_b);
     let answer = worse(a, b);
     let gap = answer.gap;
     Done {
@@ -102,19 +112,14 @@ fn done_of(state: State, steps: u32, first_a: Corner, first_b: Corner) -> Done
     }
 }
 
-// What there is to report after the steps made.
-pub fn report_of(
-    state: State,
-    steps: u32,
-    is_spent: bool,
-    first_a: Corner,
-    first_b: Corner,
-) -> Report
-    requires { ⌜ BoundedState state ⌝ }
-    ensures { λ r. ⌜ r ≡ reportOf state steps «is_spent» «first_a» «first_b» ⌝ }
+// What there is to report after the steps made. The support corners are named by the lists as given, as the worst so far
+// of each side is in the state.
+pub fn report_of(state: State, steps: u32, is_spent: bool, a: Listed, b: Listed) -> Report
+    requires { ⌜ Reportable state a b ⌝ }
+    ensures { λ r. ⌜ r ≡ reportOf state steps «is_spent» a b ⌝ }
 {
     if is_spent {
-        return Report::Spent(spent_of(state, steps));
+        return Report::Spent(spent_of(state, steps, a, b));
     }
-    Report::Done(done_of(state, steps, first_a, first_b))
+    Report::Done(done_of(state, steps, a, b))
 }

@@ -40,12 +40,12 @@ wrongLength cs room = record { number = 9; side = NoSide; applies = withoutPlace
 abbrev pub ownConditions : List Corner → ℕ → ℕ → List Condition
 ownConditions cs k room = noSuchCorner cs k ∷ justThree cs ∷ wrongLength (without k cs) room ∷ []
 
--- rule 2.7: 1 to 6 of the list s, then 8, 2 and 9
+-- rule 2.7: 1 to 6 of the list s, read strictly, then 8, 2 and 9
 abbrev pub removalConditions : List ℤ → ℕ → ℕ → List Condition
 removalConditions s k room = readingConditions NoSide s ++ ownConditions (corners s) k room
 
--- what a removal asks: an accepted outline, a corner with that number, not just 3 corners, and a list exactly as
--- long as what remains. `removal-taken` in `proofs/Removal.antt` shows that this is where no condition applies
+-- what a removal asks: a list that is accepted strictly, a corner with that number, not just 3 corners, and a list to
+-- write exactly as long as what remains. `removal-taken` in `proofs/Removal.antt` shows that this is where no condition applies
 pub record Permitted (s : List ℤ) (k room : ℕ) : Type 0 where
   pub accepted : AcceptedList s
   pub known : k < length (corners s)

@@ -19,8 +19,7 @@ use Rattle.hausdorff.specs.declared.Report.the-variants as Report
 use Rattle.hausdorff.specs.declared.Comparison.{Comparison}
 use Rattle.hausdorff.specs.declared.Comparison.the-variants.{Refused, Reported}
 use Rattle.hausdorff.specs.code.Call.{comparison}
-use Rattle.hausdorff.proofs.Law.{law-spent}
-use Rattle.hausdorff.proofs.CallLaws.{is-comparison, reported-means}
+use Rattle.hausdorff.proofs.CallLaws.{is-comparison, reported-means, spent-below}
 use Rattle.fit_lines.specs.Lines.{comparisonText}
 use Rattle.fit_lines.proofs.LengthLaws.{refusal-line-fits, done-fits}
 use Rattle.fit_text.specs.declared.parsing.Outcome.the-variants as Outcome
@@ -31,8 +30,9 @@ use Rattle.fit_text.specs.Response.{outcomeText, mostBytes, response, La
 -- an accepted pair has at most 512 edges, so the law of comparing says that it is done
 never-spent : (s t : List ℤ) (p : Spent) → ¬ (comparison s t allowance ≡ Reported (Report.Spent p))
 never-spent s t p is =
-    let (a, (b, law)) = reported-means s t allowance (Report.Spent p) (rw is at (is-comparison s t allowance)) in
-    let below = law-spent law .0 in omega (arith, a .1 .at-most, b .1 .at-most)
+    let reports = rw is at (is-comparison s t allowance) in
+    let tells = reported-means s t allowance (Report.Spent p) reports in
+    omega (arith, spent-below s t allowance p reports, tells .accepted-a .at-most, tells .accepted-b .at-most)
 
 -- what a comparison that is not spent writes
 comparison-laid-down : (c : Comparison) → ((p : Spent) → ¬ (c ≡ Reported (Report.Spent p)))

@@ -1,7 +1,7 @@
 -- The natural numbers of an answer fit an i64: none is above 2,048,000,000 squared, which is below 2^63. (X and Y
 -- of its point are i64 in the code, and the steps u32.)
 --     values-fit          of what rule 3.4 lays down for a feature of an accepted outline and a point in range
---     answers-fit         so of the nearest point
+--     given-fits          so of the nearest point, by the list as given
 --     corner-fits         and of a corner with its gap to the other outline
 --     found-fits          what the call for the nearest point answers
 --     clearance-at-most   no clearance is above 45,255
@@ -22,18 +22,25 @@ use Rattle.plane.specs.Point.{whole}
 use Rattle.plane.specs.Range.{InRange}
 use Rattle.plane.proofs.Arithmetic.{dot-is}
 use Rattle.plane.proofs.Range.{span-⇀, atMost-side}
+use Rattle.outline.specs.declared.Orientation.{Orientation}
 use Rattle.outline.specs.Convex.{Accepted}
+use Rattle.outline.specs.Corners.{corners}
 use Rattle.outline.proofs.EdgeLaws.{accepted-polygon, length-size}
 use Rattle.outline.proofs.CornersLaws.{next-below}
+use Rattle.outline.proofs.EitherLaws.{accepted-held}
+use Rattle.outline.proofs.OrientationLaws.{given-below, held-length}
 use Rattle.nearest.specs.declared.Feature.{Feature}
 use Rattle.nearest.specs.declared.Feature.the-variants as Feature
 use Rattle.nearest.specs.declared.NearestPoint.{NearestPoint}
 use Rattle.nearest.specs.declared.NearestAnswer.the-variants.{Found}
 use Rattle.nearest.specs.code.Call.{nearestAnswer}
 use Rattle.nearest.specs.Feature.{values}
+use Rattle.nearest.specs.Given.{givenFeature, givenNearest}
+use Rattle.nearest.specs.code.Given.{FeatureBelow}
 use Rattle.nearest.specs.Nearest.{Fits, Answers}
 use Rattle.nearest.proofs.CallLaws.{nearest-answers}
 use Rattle.nearest.proofs.GapLimit.{gap-at-most}
+use Rattle.nearest.proofs.GivenLaws.{given-feature-below, answers-below}
 use Rattle.hausdorff.specs.declared.CornerGap.{CornerGap}
 use Rattle.hausdorff.specs.declared.WorstSoFar.{WorstSoFar}
 use Rattle.hausdorff.specs.declared.WorstSoFar.the-variants.{None, Worst}
@@ -44,18 +51,20 @@ use Rattle.hausdorff.specs.declared.Done.{Done}
 use Rattle.hausdorff.specs.declared.Report.{Report}
 use Rattle.hausdorff.specs.declared.Report.the-variants as Report
 use Rattle.hausdorff.specs.declared.Comparison.the-variants.{Reported}
-use Rattle.hausdorff.specs.Pair.{Pair, other}
+use Rattle.hausdorff.specs.Pair.{Pair, Orientations, given, other}
 use Rattle.hausdorff.specs.code.Pair.{AcceptedPair}
 use Rattle.hausdorff.specs.Answer.{IsGap}
 use Rattle.hausdorff.specs.Support.{supportAfter}
 use Rattle.hausdorff.specs.Counted.{LeadsOrNone}
 use Rattle.hausdorff.specs.Law.{OfDone, OfSpent, Law}
 use Rattle.hausdorff.specs.Call.{IsComparison}
+use Rattle.hausdorff.specs.code.Call.{orientations}
+use Rattle.hausdorff.specs.Given.{givenGap, givenWorst, givenSpent, givenDone, givenReport}
 use Rattle.hausdorff.proofs.Law.{law-done, law-spent}
-use Rattle.hausdorff.proofs.CallLaws.{both-accepted, reported-means}
+use Rattle.hausdorff.proofs.CallLaws.{held-pair, reported-means}
 use Rattle.hausdorff.proofs.WorstLaws.{support-known}
-use Rattle.hausdorff.specs.code.Sizes.{FitsI64, NearestFits, CornerFits, WorstFits, DoneFits, SpentFits}
-use Rattle.hausdorff.specs.code.Sizes.{ReportFits}
+use Rattle.hausdorff.specs.code.Sizes.{FitsI64, FeatureFits, NearestFits, CornerFits, WorstFits, DoneFits}
+use Rattle.hausdorff.specs.code.Sizes.{SpentFits, ReportFits}
 
 -- a number of known size
 bounded-fits : {b : ℕ} {z : ℤ} → AtMost b z → T (ltb b (2 ^ 63)) → FitsI64 (natAbs z)
@@ -84,29 +93,50 @@ module _ {cs : List Corner} (ok : Accepted cs) where
     answers-fit {a} is =
         subst (λ (x : NearestPoint). NearestFits x) (sym (is .written)) (values-fit (a .point) (a .feature) (is .fits))
 
+    -- a feature of the list is one by its number as given
+    feature-fits : (f : Feature) → FeatureBelow (length cs) f → FeatureFits f
+    feature-fits Feature.Within below = tt
+    feature-fits (Feature.Corner i) below = number-fits i below
+    feature-fits (Feature.Edge i) below = number-fits i below
+
+    given-fits : (o : Orientation) {a : NearestPoint} → Answers cs v a → NearestFits (givenNearest o (length cs) a)
+    given-fits o {a} is = let fits = answers-fit is in record {
+      feature = feature-fits (givenFeature o (length cs) (a .feature))
+          (given-feature-below o (length cs) (a .feature) (answers-below is));
+      upper = fits .upper;
+      lower = fits .lower;
+      point-lower = fits .point-lower;
+    }
+
 pub found-fits : (v : Corner) (s : List ℤ) {a : NearestPoint} → nearestAnswer v s ≡ Found a → NearestFits a
 found-fits v s {a} is =
-    let (ok, in-range, answers) = nearest-answers v s a .0 is in answers-fit (ok .1) in-range answers
+    let of = nearest-answers v s a .0 is in let o = of .orientation in
+    rw (of .named, ← held-length o (corners s))
+    (given-fits (accepted-held (of .accepted)) (of .in-range) o (of .answers))
 
-module _ {pair : Pair} (ok : AcceptedPair pair) where
-  corner-fits : {w : CornerGap} → IsGap pair w → CornerFits w
-  corner-fits {w} is = record {
-    corner = number-fits (ok (w .side)) (w .corner) (is .known);
-    nearest = answers-fit (ok (other (w .side))) (ok (w .side) .in-range (w .corner) (is .known)) (is .answers);
+module _ {pair : Pair} (os : Orientations) (ok : AcceptedPair pair) where
+  -- a corner's number as given
+  given-number-fits : (s : Side) (i : ℕ) → i < length (pair s) → FitsI64 (given pair os s i)
+  given-number-fits s i below = number-fits (ok s) _ (given-below (os s) (length (pair s)) i below)
+
+  corner-fits : {w : CornerGap} → IsGap pair w → CornerFits (givenGap pair os w)
+  corner-fits {w} is = let t = other (w .side) in record {
+    corner = given-number-fits (w .side) (w .corner) (is .known);
+    nearest = given-fits (ok t) (ok (w .side) .in-range (w .corner) (is .known)) (os t) (is .answers);
   }
 
-  worst-fits : (T : CornerGap → Type 0) (x : WorstSoFar) → LeadsOrNone pair T x → WorstFits x
+  worst-fits : (T : CornerGap → Type 0) (x : WorstSoFar) → LeadsOrNone pair os T x → WorstFits (givenWorst pair os x)
   worst-fits T None is = tt
   worst-fits T (Worst w) leads = corner-fits (leads .is-gap)
 
   -- no gap is above 2 · 32,000², and the square of 45,255 is
-  pub clearance-at-most : {d : Done} → OfDone pair d → d .clearance ≤ 45255
+  pub clearance-at-most : {d : Done} → OfDone pair os d → d .clearance ≤ 45255
   clearance-at-most {d} of =
       let is = of .as-defined .is-gap in let w = d .answer in
       let small = gap-at-most (ok (other (w .side))) (ok (w .side) .in-range (w .corner) (is .known)) (is .answers) in
       of .clearance .smallest 45255 (le-trans (rw mul-one at small) (mul-le-mul-right (w .gap .lower) (lit≤ tt)))
 
-  of-done-fits : {d : Done} → OfDone pair d → DoneFits d
+  of-done-fits : {d : Done} → OfDone pair os d → DoneFits (givenDone pair os d)
   of-done-fits of = record {
     answer = corner-fits (of .as-defined .is-gap);
     clearance = lt-of-le-of-lt (clearance-at-most of) (lit< tt);
@@ -114,10 +144,10 @@ module _ {pair : Pair} (ok : AcceptedPair pair) where
     side-b = corner-fits (of .side-b .as-defined .is-gap);
   }
 
-  support-fits : (k : ℕ) (s : Side) → FitsI64 (supportAfter pair k s)
-  support-fits k s = number-fits (ok s) _ (support-known pair (λ t. accepted-polygon (ok t)) k s)
+  support-fits : (k : ℕ) (s : Side) → FitsI64 (given pair os s (supportAfter pair k s))
+  support-fits k s = given-number-fits s _ (support-known pair (λ t. accepted-polygon (ok t)) k s)
 
-  of-spent-fits : {n : ℕ} {p : Spent} → OfSpent pair n p → SpentFits p
+  of-spent-fits : {n : ℕ} {p : Spent} → OfSpent pair os n p → SpentFits (givenSpent pair os p)
   of-spent-fits {n} {p} of = record {
     support-a = rw (of .support-a) (support-fits n A);
     support-b = rw (of .support-b) (support-fits n B);
@@ -126,11 +156,12 @@ module _ {pair : Pair} (ok : AcceptedPair pair) where
     side-b = worst-fits _ (p .sides .b) (of .side-b .worst);
   }
 
+  by-report : {n : ℕ} (q : Report) → Law pair os n q → ReportFits (givenReport pair os q)
+  by-report (Report.Spent p) lawful = of-spent-fits (law-spent lawful .1)
+  by-report (Report.Done d) lawful = of-done-fits (law-done lawful .1)
+
 pub report-fits : (s t : List ℤ) (allowance : ℕ) (q : Report) → IsComparison s t allowance (Reported q) → ReportFits q
 report-fits s t allowance q is =
-    let (ok-a, (ok-b, lawful)) = reported-means s t allowance q is in
-    by-report (both-accepted _ _ (ok-a .1) (ok-b .1)) q lawful
-  where
-    by-report : {pair : Pair} → AcceptedPair pair → (q : Report) → Law pair allowance q → ReportFits q
-    by-report ok (Report.Spent p) lawful = of-spent-fits ok (law-spent lawful .1)
-    by-report ok (Report.Done d) lawful = of-done-fits ok (law-done lawful .1)
+    let tells = reported-means s t allowance q is in
+    rw (tells .named) (by-report (orientations s t)
+    (held-pair s t _ _ (tells .accepted-a) (tells .accepted-b)) (tells .as-held) (tells .lawful))

@@ -27,15 +27,14 @@ use Rattle.outline.specs.declared.Side.the-variants.{A, B}
 use Rattle.nearest.proofs.Rotation.{SamePiece}
 use Rattle.nearest.proofs.DistanceLaws.{squaredDistance-is}
 use Rattle.hausdorff.specs.declared.CornerGap.{CornerGap}
-use Rattle.hausdorff.specs.Pair.{Pair, both, other}
+use Rattle.hausdorff.specs.Pair.{Pair, both, Orientations, other}
 use Rattle.hausdorff.specs.Answer.{IsAnswer, IsSideAnswer}
 use Rattle.hausdorff.specs.Hausdorff.{DistanceAtMost, DistanceAtLeast, Directed, Hausdorff}
 use Rattle.hausdorff.specs.code.Pair.{Polygons}
 use Rattle.hausdorff.specs.code.CornerGap.{cornerGap}
-use Rattle.hausdorff.specs.code.Worst.{shownNumber}
 use Rattle.hausdorff.proofs.DistanceLaws.{greatest-directed}
 use Rattle.hausdorff.proofs.GapLaws.{gap-is, gap-iff, gap-positive}
-use Rattle.hausdorff.proofs.Preference.{Preferred, foremost}
+use Rattle.hausdorff.proofs.Preference.{farthest}
 
 -- the point that has all others at least g away has one at most h away
 pub at-least-most : {cs ds : List Corner} (g h : Fraction)
@@ -122,14 +121,14 @@ hausdorff-pieces same is = record {
 module _ (pair : Pair) (polygons : Polygons pair) where
   -- the worst corner of a side reaches its distance
   module _ (s : Side) where
-    worst : Greatest (λ i j. Preferred (shownNumber pair s) (cornerGap pair s i) (cornerGap pair s j)) (length (pair s))
-    worst = foremost pair polygons s
+    worst : Greatest (λ i j. NotGreater (cornerGap pair s j .gap) (cornerGap pair s i .gap)) (length (pair s))
+    worst = farthest pair polygons s
 
     abbrev reached : Fraction
     reached = cornerGap pair s (worst .place) .gap
 
     not-above : (j : ℕ) → j < length (pair s) → NotGreater (cornerGap pair s j .gap) reached
-    not-above j below = worst .over j below .not-less
+    not-above = worst .over
 
     reaches : Directed (pair s) (pair (other s)) reached
     reaches = greatest-directed pair polygons s (worst .place) (worst .below) not-above
@@ -152,7 +151,8 @@ module _ (pair : Pair) (polygons : Polygons pair) where
   )
 
   -- it is the greatest gap of its side
-  pub answer-directed : (s : Side) (w : CornerGap) → IsSideAnswer pair s w → Directed (pair s) (pair (other s)) (w .gap)
+  pub answer-directed : {os : Orientations} (s : Side) (w : CornerGap) → IsSideAnswer pair os s w
+      → Directed (pair s) (pair (other s)) (w .gap)
   answer-directed s w is =
       let (known, equal) = gap-iff pair polygons w .0 (is .is-gap) in
       let same : w .gap ≡ cornerGap pair s (w .corner) .gap =
@@ -161,7 +161,7 @@ module _ (pair : Pair) (polygons : Polygons pair) where
       (λ j below. rw same at (is .greatest (cornerGap pair s j) (gap-is pair polygons s j below) refl)))
 
   -- it is the greatest gap of both, so of its own side too
-  pub answer-hausdorff : (w : CornerGap) → IsAnswer pair w → Hausdorff pair (w .gap)
+  pub answer-hausdorff : {os : Orientations} (w : CornerGap) → IsAnswer pair os w → Hausdorff pair (w .gap)
   answer-hausdorff w is =
       let s = w .side in
       let (known, equal) = gap-iff pair polygons w .0 (is .is-gap) in

@@ -1,4 +1,5 @@
 -- Gaps of corners, and which leads among some of them: the greatest, of equals the first.
+--     given-one                    corners of a side with one number as given are one
 --     not-later-antisym            two corners of which neither is later are one
 --     not-later-on-side            on one side the numbers decide
 --     leads-map                    only which gaps it leads among matters, not how that is said
@@ -23,27 +24,38 @@ use Rattle.integers.proofs.FractionOrder.{notGreater-isLess, less-notGreater}
 use Rattle.hausdorff.specs.declared.CornerGap.{CornerGap}
 use Rattle.outline.specs.declared.Side.{Side}
 use Rattle.outline.specs.declared.Side.the-variants.{A, B}
-use Rattle.hausdorff.specs.Pair.{Pair}
+use Rattle.hausdorff.specs.Pair.{Pair, Orientations, given}
 use Rattle.hausdorff.specs.code.Pair.{Polygons}
 use Rattle.hausdorff.specs.code.CornerGap.{cornerGap}
 use Rattle.hausdorff.specs.CornerGap.{worse}
 use Rattle.hausdorff.specs.Answer.{IsGap, NotLater, Leads}
+use Rattle.outline.specs.Orientation.{givenCorner}
+use Rattle.outline.proofs.OrientationLaws.{given-twice}
 use Rattle.hausdorff.proofs.Preference.{PreferredOf}
 use Rattle.hausdorff.proofs.GapLaws.{gap-iff, gap-is, gap-lower}
 
+-- a number as given is one corner's
+pub given-one : (pair : Pair) (os : Orientations) (s : Side) (i j : ℕ) → i < length (pair s) → j < length (pair s)
+    → given pair os s i ≡ given pair os s j → i ≡ j
+given-one pair os s i j known there same =
+    let n = length (pair s) in
+    sym (given-twice (os s) n i known) ∙ ap (givenCorner (os s) n) same ∙ given-twice (os s) n j there
+
 -- by the four cases of the sides
-pub not-later-antisym : (pair : Pair) (s t : Side) (i j : ℕ) → NotLater s i t j → NotLater t j s i → cornerGap pair s i ≡ cornerGap pair t j
-not-later-antisym pair A A i j p q = ap (cornerGap pair A) (le-antisymm p q)
-not-later-antisym pair A B i j p q = absurd q
-not-later-antisym pair B A i j p q = absurd p
-not-later-antisym pair B B i j p q = ap (cornerGap pair B) (le-antisymm p q)
+pub not-later-antisym : (pair : Pair) (os : Orientations) (s t : Side) (i j : ℕ) → i < length (pair s) → j < length (pair t)
+    → NotLater s (given pair os s i) t (given pair os t j) → NotLater t (given pair os t j) s (given pair os s i)
+    → cornerGap pair s i ≡ cornerGap pair t j
+not-later-antisym pair os A A i j known there p q = ap (cornerGap pair A) (given-one pair os A i j known there (le-antisymm p q))
+not-later-antisym pair os A B i j known there p q = absurd q
+not-later-antisym pair os B A i j known there p q = absurd p
+not-later-antisym pair os B B i j known there p q = ap (cornerGap pair B) (given-one pair os B i j known there (le-antisymm p q))
 
 pub not-later-on-side : (s : Side) (i j : ℕ) → i ≤ j → NotLater s i s j
 not-later-on-side A i j p = p
 not-later-on-side B i j p = p
 
-pub leads-map : {pair : Pair} {T U : CornerGap → Type 0} {w : CornerGap}
-    → ((z : CornerGap) → IsGap pair z → T z ↔ U z) → Leads pair T w → Leads pair U w
+pub leads-map : {pair : Pair} {os : Orientations} {T U : CornerGap → Type 0} {w : CornerGap}
+    → ((z : CornerGap) → IsGap pair z → T z ↔ U z) → Leads pair os T w → Leads pair os U w
 leads-map {w = w} same leads = record {
   is-gap = leads .is-gap;
   among = same w (leads .is-gap) .0 (leads .among);
@@ -68,23 +80,24 @@ worse-first w z most = ap (λ (t : Bool). cond t z w) (notGreater-isLess (w .gap
 pub worse-second : (w z : CornerGap) → ¬ NotGreater (z .gap) (w .gap) → worse w z ≡ z
 worse-second w z less = ap (λ (t : Bool). cond t z w) (less-isLess (w .gap) (z .gap) less)
 
-module _ (pair : Pair) (polygons : Polygons pair) where
+module _ (pair : Pair) (os : Orientations) (polygons : Polygons pair) where
   -- neither of two is greater, so neither is later
-  pub leads-unique : {T : CornerGap → Type 0} (w z : CornerGap) → Leads pair T w → Leads pair T z → w ≡ z
+  pub leads-unique : {T : CornerGap → Type 0} (w z : CornerGap) → Leads pair os T w → Leads pair os T z → w ≡ z
   leads-unique w z p q =
       gap-iff pair polygons w .0 (p .is-gap) .1
-      ∙ not-later-antisym pair (w .side) (z .side) (w .corner) (z .corner)
+      ∙ not-later-antisym pair os (w .side) (z .side) (w .corner) (z .corner) (p .is-gap .known) (q .is-gap .known)
       (p .first-of-equals z (q .is-gap) (q .among) (q .greatest w (p .is-gap) (p .among)))
       (q .first-of-equals w (p .is-gap) (p .among) (p .greatest z (q .is-gap) (q .among)))
       ∙ sym (gap-iff pair polygons z .0 (q .is-gap) .1)
 
   -- of equals the first comes before all later ones
-  pub leads-worse : {T U : CornerGap → Type 0} (w z : CornerGap) → Leads pair T w → Leads pair U z
-      → ((x : CornerGap) → U x → NotLater (w .side) (w .corner) (x .side) (x .corner))
-      → Leads pair (λ x. T x ⊎ U x) (worse w z)
+  pub leads-worse : {T U : CornerGap → Type 0} (w z : CornerGap) → Leads pair os T w → Leads pair os U z
+      → ((x : CornerGap) → U x
+      → NotLater (w .side) (given pair os (w .side) (w .corner)) (x .side) (given pair os (x .side) (x .corner)))
+      → Leads pair os (λ x. T x ⊎ U x) (worse w z)
   leads-worse {T} {U} w z p q order = go (isLess (w .gap) (z .gap)) refl
     where
-      go : (t : Bool) → isLess (w .gap) (z .gap) ≡ t → Leads pair (λ x. T x ⊎ U x) (cond t z w)
+      go : (t : Bool) → isLess (w .gap) (z .gap) ≡ t → Leads pair os (λ x. T x ⊎ U x) (cond t z w)
       go true less = record {
         is-gap = q .is-gap;
         among = inr (q .among);
@@ -107,14 +120,15 @@ module _ (pair : Pair) (polygons : Polygons pair) where
       }
 
   -- on one side the numbers are the shown numbers
-  pub leads-of : (s : Side) (Q : ℕ → Type 0) (w : CornerGap) → w .corner < length (pair s) → PreferredOf pair s Q w
-      → Leads pair (OnSide s Q) w
+  pub leads-of : (s : Side) (Q : ℕ → Type 0) (w : CornerGap) → w .corner < length (pair s) → PreferredOf pair os s Q w
+      → Leads pair os (OnSide s Q) w
   leads-of s Q w below best = record {
     is-gap = rw (best .equal) (gap-is pair polygons s (w .corner) below);
     among = (w-on, best .holds);
     greatest = λ z gap (on, q). rw (gap-at z gap on) (best .preferred (z .corner) q .not-less);
     first-of-equals = λ z gap (on, q) equal. rw (w-on, on)
-        (not-later-on-side s (w .corner) (z .corner) (best .preferred (z .corner) q .first-of-equals (rw (gap-at z gap on) at equal)));
+        (not-later-on-side s (given pair os s (w .corner)) (given pair os s (z .corner))
+        (best .preferred (z .corner) q .first-of-equals (rw (gap-at z gap on) at equal)));
   }
     where
       w-on : w .side ≡ s
@@ -126,6 +140,6 @@ module _ (pair : Pair) (polygons : Polygons pair) where
           ∙ ap (λ (t : Side). cornerGap pair t (z .corner) .gap) on
 
   -- A's corners come before B's
-  pub leads-both : (Q : Side → ℕ → Type 0) (w z : CornerGap) → Leads pair (OnSide A (Q A)) w → Leads pair (OnSide B (Q B)) z
-      → Leads pair (λ x. Q (x .side) (x .corner)) (worse w z)
+  pub leads-both : (Q : Side → ℕ → Type 0) (w z : CornerGap) → Leads pair os (OnSide A (Q A)) w
+      → Leads pair os (OnSide B (Q B)) z → Leads pair os (λ x. Q (x .side) (x .corner)) (worse w z)
   leads-both Q w z p q = leads-map (λ z gap. by-side Q z) (leads-worse w z p q (λ x on. rw (p .among .0, on .0) tt))

@@ -20,4 +20,6 @@ pub mod AnswerLaws
 pub mod HausdorffLaws
 pub mod Law
 pub mod CallLaws
+pub mod SamePieces
+pub mod GivenLaws
 pub mod Fitting

@@ -1,11 +1,12 @@
 -- Which of two corners of a side is the worse, and which of some corners of a side is the worst.
---     Preferred          its gap is greater, or equal and its shown number not higher
+--     Preferred          its gap is greater, or equal and its number as given not higher
 --     PreferredOf        w is the true gap of a corner of the side that has a property, and preferred over all that
 --                        have it
 --     preferred-refl     a corner is preferred over itself
 --     taken-preferred    what `takesPlace` takes is preferred over what it leaves
 --     side-trans         preference is transitive on the corners of a side
 --     foremost           a side has a corner that is preferred over all of the side
+--     farthest           so a side has a corner of greatest gap
 use Prim.Native.Nat.{ℕ, _<_, _≤_}
 use mathlib.Core.Path.{_≡_, refl}
 use mathlib.Core.Logic.{_⊎_, inl, inr}
@@ -18,21 +19,22 @@ use Rattle.integers.specs.Fraction.{isLess, NotGreater}
 use Rattle.integers.proofs.FractionOrder.{notGreater-refl, notGreater-trans, isLess-true, isLess-false, less-notGreater}
 use Rattle.integers.proofs.Greatest.{Greatest, greatest}
 use Rattle.hausdorff.specs.declared.CornerGap.{CornerGap}
+use Rattle.outline.specs.declared.Orientation.the-variants.{Counterclockwise}
 use Rattle.outline.specs.declared.Side.{Side}
-use Rattle.hausdorff.specs.Pair.{Pair}
+use Rattle.hausdorff.specs.Pair.{Pair, Orientations, given}
 use Rattle.hausdorff.specs.code.Pair.{Polygons}
 use Rattle.hausdorff.specs.code.CornerGap.{cornerGap}
-use Rattle.hausdorff.specs.code.Worst.{shownNumber, takesPlace}
+use Rattle.hausdorff.specs.code.Worst.{takesPlace}
 use Rattle.hausdorff.proofs.GapLaws.{gap-positive}
 
 pub record Preferred (shown : ℕ → ℕ) (w z : CornerGap) : Type 0 where
   pub not-less : NotGreater (z .gap) (w .gap)
   pub first-of-equals : NotGreater (w .gap) (z .gap) → shown (w .corner) ≤ shown (z .corner)
 
-pub record PreferredOf (pair : Pair) (s : Side) (Q : ℕ → Type 0) (w : CornerGap) : Type 0 where
+pub record PreferredOf (pair : Pair) (os : Orientations) (s : Side) (Q : ℕ → Type 0) (w : CornerGap) : Type 0 where
   pub equal : w ≡ cornerGap pair s (w .corner)
   pub holds : Q (w .corner)
-  pub preferred : (j : ℕ) → Q j → Preferred (shownNumber pair s) w (cornerGap pair s j)
+  pub preferred : (j : ℕ) → Q j → Preferred (given pair os s) w (cornerGap pair s j)
 
 module _ (shown : ℕ → ℕ) where
   pub preferred-refl : (w : CornerGap) → Preferred shown w w
@@ -77,18 +79,25 @@ module _ (shown : ℕ → ℕ) where
       go true p = inl p
       go false p = inr p
 
-module _ (pair : Pair) (polygons : Polygons pair) (s : Side) where
+module _ (pair : Pair) (os : Orientations) (polygons : Polygons pair) (s : Side) where
   -- for a gap has a lower number above 0
   pub side-trans : (w x : CornerGap) (i : ℕ) → w ≡ cornerGap pair s (w .corner) → x ≡ cornerGap pair s (x .corner)
-      → Preferred (shownNumber pair s) w x → Preferred (shownNumber pair s) x (cornerGap pair s i)
-      → Preferred (shownNumber pair s) w (cornerGap pair s i)
+      → Preferred (given pair os s) w x → Preferred (given pair os s) x (cornerGap pair s i)
+      → Preferred (given pair os s) w (cornerGap pair s i)
   side-trans w x i w-is x-is =
-      preferred-trans (shownNumber pair s) w x (cornerGap pair s i) (rw w-is (gap-positive pair polygons s (w .corner)))
+      preferred-trans (given pair os s) w x (cornerGap pair s i) (rw w-is (gap-positive pair polygons s (w .corner)))
       (rw x-is (gap-positive pair polygons s (x .corner))) (gap-positive pair polygons s i)
 
   -- and total, so one is greatest
-  pub foremost : Greatest (λ i j. Preferred (shownNumber pair s) (cornerGap pair s i) (cornerGap pair s j)) (length (pair s))
+  pub foremost : Greatest (λ i j. Preferred (given pair os s) (cornerGap pair s i) (cornerGap pair s j)) (length (pair s))
   foremost =
       let gap : ℕ → CornerGap = cornerGap pair s in
-      greatest _ (λ i j. preferred-total (shownNumber pair s) (gap i) (gap j)) (λ i j k. side-trans (gap i) (gap j) k refl refl)
+      greatest _ (λ i j. preferred-total (given pair os s) (gap i) (gap j)) (λ i j k. side-trans (gap i) (gap j) k refl refl)
       (length (pair s)) (omega (arith, polygons s .at-least))
+
+-- whatever the orientations are
+pub farthest : (pair : Pair) → Polygons pair → (s : Side)
+    → Greatest (λ i j. NotGreater (cornerGap pair s j .gap) (cornerGap pair s i .gap)) (length (pair s))
+farthest pair polygons s =
+    let best = foremost pair (λ t. Counterclockwise) polygons s in
+    record { place = best .place; below = best .below; over = λ i below. best .over i below .not-less }

@@ -26,12 +26,12 @@ use Rattle.nearest.specs.code.Local.{feature}
 use Rattle.outline.specs.declared.Side.{Side}
 use Rattle.hausdorff.specs.declared.WorstSoFar.{WorstSoFar}
 use Rattle.hausdorff.specs.declared.WorstSoFar.the-variants.{None, Worst}
-use Rattle.hausdorff.specs.Pair.{Pair, other, sameSide, stepCount}
+use Rattle.hausdorff.specs.Pair.{Pair, Orientations, given, other, sameSide, stepCount}
 use Rattle.hausdorff.specs.code.Pair.{Polygons}
 use Rattle.hausdorff.specs.AngularOrder.{PairEdge, angularOrder}
 use Rattle.hausdorff.specs.code.Counting.{isCounted}
 use Rattle.hausdorff.specs.code.CornerGap.{cornerGap}
-use Rattle.hausdorff.specs.code.Worst.{shownNumber, takesPlace, keep}
+use Rattle.hausdorff.specs.code.Worst.{takesPlace, keep}
 use Rattle.hausdorff.specs.Counted.{Counts, CountsAfter, Counted}
 use Rattle.hausdorff.specs.Support.{firstStart, pass, passAll, supportAfter}
 use Rattle.hausdorff.specs.code.Sweep.{measured, worstAfter}
@@ -42,18 +42,18 @@ use Rattle.hausdorff.proofs.SweepLaws.{Met}
 use Rattle.hausdorff.proofs.Preference.{Preferred, preferred-refl, taken-preferred, side-trans, PreferredOf}
 
 -- a side's worst is the preferred one of the corners that have a property, or none where none has it
-abbrev pub WorstOf : Pair → Side → (ℕ → Type 0) → WorstSoFar → Type 0
-WorstOf pair s Q None = (i : ℕ) → ¬ Q i
-WorstOf pair s Q (Worst w) = PreferredOf pair s Q w
+abbrev pub WorstOf : Pair → Orientations → Side → (ℕ → Type 0) → WorstSoFar → Type 0
+WorstOf pair os s Q None = (i : ℕ) → ¬ Q i
+WorstOf pair os s Q (Worst w) = PreferredOf pair os s Q w
 
 -- a corner of the side that is not within the other piece
 pub record IsOutsideCorner (pair : Pair) (s : Side) (i : ℕ) : Type 0 where
   pub known : i < length (pair s)
   pub outside : Outside (pair (other s)) (whole (corner (pair s) i))
 
-module _ (pair : Pair) (s : Side) where
+module _ (pair : Pair) (os : Orientations) (s : Side) where
   -- only which corners it is the worst of matters, not how that is said
-  worst-map : {Q R : ℕ → Type 0} → ((i : ℕ) → Q i ↔ R i) → (x : WorstSoFar) → WorstOf pair s Q x → WorstOf pair s R x
+  worst-map : {Q R : ℕ → Type 0} → ((i : ℕ) → Q i ↔ R i) → (x : WorstSoFar) → WorstOf pair os s Q x → WorstOf pair os s R x
   worst-map same None none = λ i r. none i (same i .1 r)
   worst-map same (Worst w) best = record {
     equal = best .equal;
@@ -61,29 +61,29 @@ module _ (pair : Pair) (s : Side) where
     preferred = λ j r. best .preferred j (same j .1 r);
   }
 
-module _ (pair : Pair) (polygons : Polygons pair) (s : Side) where
+module _ (pair : Pair) (os : Orientations) (polygons : Polygons pair) (s : Side) where
   -- what is kept of the worst of some corners and the worst of others is the worst of all of these
-  keep-worst : (Q R : ℕ → Type 0) (old new : WorstSoFar) → WorstOf pair s Q old → WorstOf pair s R new
-      → WorstOf pair s (λ i. Q i ⊎ R i) (keep (shownNumber pair s) old new)
-  keep-worst Q R None new none q = worst-map pair s (λ i. (inr, ⊎-elim (λ h. absurd (none i h)) (λ h. h))) new q
+  keep-worst : (Q R : ℕ → Type 0) (old new : WorstSoFar) → WorstOf pair os s Q old → WorstOf pair os s R new
+      → WorstOf pair os s (λ i. Q i ⊎ R i) (keep (given pair os s) old new)
+  keep-worst Q R None new none q = worst-map pair os s (λ i. (inr, ⊎-elim (λ h. absurd (none i h)) (λ h. h))) new q
   keep-worst Q R (Worst old) None p none =
-      worst-map pair s (λ i. (inl, ⊎-elim (λ h. h) (λ h. absurd (none i h)))) (Worst old) p
+      worst-map pair os s (λ i. (inl, ⊎-elim (λ h. h) (λ h. absurd (none i h)))) (Worst old) p
   keep-worst Q R (Worst old) (Worst new) p q =
-      go (takesPlace (shownNumber pair s) new old) (taken-preferred (shownNumber pair s) new old)
+      go (takesPlace (given pair os s) new old) (taken-preferred (given pair os s) new old)
     where
-      go : (t : Bool) → Preferred (shownNumber pair s) (cond t new old) (cond t old new)
-          → PreferredOf pair s (λ i. Q i ⊎ R i) (cond t new old)
+      go : (t : Bool) → Preferred (given pair os s) (cond t new old) (cond t old new)
+          → PreferredOf pair os s (λ i. Q i ⊎ R i) (cond t new old)
       go true better = record {
         equal = q .equal;
         holds = inr (q .holds);
         preferred = λ j. ⊎-elim
-            (λ h. side-trans pair polygons s new old j (q .equal) (p .equal) better (p .preferred j h)) (q .preferred j);
+            (λ h. side-trans pair os polygons s new old j (q .equal) (p .equal) better (p .preferred j h)) (q .preferred j);
       }
       go false better = record {
         equal = p .equal;
         holds = inl (p .holds);
         preferred = λ j. ⊎-elim
-            (p .preferred j) (λ h. side-trans pair polygons s old new j (p .equal) (q .equal) better (q .preferred j h));
+            (p .preferred j) (λ h. side-trans pair os polygons s old new j (p .equal) (q .equal) better (q .preferred j h));
       }
 
 -- both support corners are corners of their outlines
@@ -113,9 +113,10 @@ module _ (pair : Pair) (polygons : Polygons pair) where
 
   module _ (s : Side) where
     -- what is measured is the support corner, if it counts
-    measured-worst : (j : ℕ) → WorstOf pair s (CountsAfter pair j s) (measured pair (supportAfter pair j) s)
+    measured-worst : (os : Orientations) (j : ℕ)
+        → WorstOf pair os s (CountsAfter pair j s) (measured pair (supportAfter pair j) s)
     unfolding measured
-    measured-worst j = go (isCounted (pair (other s)) b v) refl
+    measured-worst os j = go (isCounted (pair (other s)) b v) refl
       where
         b : ℕ
         b = supportAfter pair j (other s)
@@ -130,30 +131,30 @@ module _ (pair : Pair) (polygons : Polygons pair) where
         means = counts-iff (polygons (other s)) b (support-known j (other s)) v
 
         go : (t : Bool) → isCounted (pair (other s)) b v ≡ t
-            → WorstOf pair s (CountsAfter pair j s) (cond t (Worst (cornerGap pair s i)) None)
+            → WorstOf pair os s (CountsAfter pair j s) (cond t (Worst (cornerGap pair s i)) None)
         go true holds = record {
           equal = refl;
           holds = (refl, means .0 holds);
-          preferred = λ k (here, _). rw (← here) (preferred-refl (shownNumber pair s) (cornerGap pair s i));
+          preferred = λ k (here, _). rw (← here) (preferred-refl (given pair os s) (cornerGap pair s i));
         }
         go false fails = λ k (here, counts).
             test-false _ means .0 fails
             (subst (λ (x : ℕ). Counts (pair (other s)) b (corner (pair s) x)) (sym here) counts)
 
     -- before step 1 it is none, and each step adds what counts in it
-    pub worst-after : (k : ℕ) → WorstOf pair s (Counted pair k s) (worstAfter pair k s)
+    pub worst-after : (os : Orientations) (k : ℕ) → WorstOf pair os s (Counted pair k s) (worstAfter pair os k s)
     unfolding worstAfter
-    worst-after zero = λ i (j, below, _). absurd (omega arith)
-    worst-after (suc k) =
-        worst-map pair s (λ i. (
+    worst-after os zero = λ i (j, below, _). absurd (omega arith)
+    worst-after os (suc k) =
+        worst-map pair os s (λ i. (
           ⊎-elim (λ (j, below, counts). (j, omega arith, counts)) (λ counts. (k, omega arith, counts)),
           λ (j, below, counts). ⊎-elim
               (λ last. inr (subst (λ (x : ℕ). CountsAfter pair x s i) last counts)) (λ less. inl (j, less, counts))
               (eq-or-lt-of-le (le-of-suc-le-suc below)),
         ))
-        (keep (shownNumber pair s) (worstAfter pair k s) (measured pair (supportAfter pair k) s))
-        (keep-worst pair polygons s (Counted pair k s) (CountsAfter pair k s) (worstAfter pair k s)
-        (measured pair (supportAfter pair k) s) (worst-after k) (measured-worst k))
+        (keep (given pair os s) (worstAfter pair os k s) (measured pair (supportAfter pair k) s))
+        (keep-worst pair os polygons s (Counted pair k s) (CountsAfter pair k s) (worstAfter pair os k s)
+        (measured pair (supportAfter pair k) s) (worst-after os k) (measured-worst os k))
 
     module _ (i : ℕ) where
       pub counted-outside : (k : ℕ) → Counted pair k s i → IsOutsideCorner pair s i

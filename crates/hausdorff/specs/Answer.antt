@@ -12,7 +12,7 @@ use Rattle.nearest.specs.Nearest.{Answers}
 use Rattle.outline.specs.declared.Side.{Side}
 use Rattle.outline.specs.declared.Side.the-variants.{A, B}
 use Rattle.hausdorff.specs.declared.CornerGap.{CornerGap}
-use Rattle.hausdorff.specs.Pair.{Pair, other}
+use Rattle.hausdorff.specs.Pair.{Pair, Orientations, given, other}
 use Rattle.hausdorff.specs.CornerGap.{nearestOf}
 
 -- rule 4.1: w is a corner of one outline with its feature, gap and nearest point in the other
@@ -27,21 +27,21 @@ NotLater A i B j = Unit {0}
 NotLater B i A j = ⊥
 NotLater B i B j = i ≤ j
 
--- w is one of some gaps, the greatest of these as a value, and the first of equals
-pub record Leads (pair : Pair) (Among : CornerGap → Type 0) (w : CornerGap) : Type 0 where
+-- w is one of some gaps, the greatest of these as a value, and the first of equals by the numbers as given
+pub record Leads (pair : Pair) (os : Orientations) (Among : CornerGap → Type 0) (w : CornerGap) : Type 0 where
   pub is-gap : IsGap pair w
   pub among : Among w
   pub greatest : (z : CornerGap) → IsGap pair z → Among z → NotGreater (z .gap) (w .gap)
   pub first-of-equals : (z : CornerGap) → IsGap pair z → Among z → NotGreater (w .gap) (z .gap)
-      → NotLater (w .side) (w .corner) (z .side) (z .corner)
+      → NotLater (w .side) (given pair os (w .side) (w .corner)) (z .side) (given pair os (z .side) (z .corner))
 
 -- rule 4.2, the answer: it leads among all corners of both
-abbrev pub IsAnswer : Pair → CornerGap → Type 0
-IsAnswer pair w = Leads pair (λ z. Unit {0}) w
+abbrev pub IsAnswer : Pair → Orientations → CornerGap → Type 0
+IsAnswer pair os w = Leads pair os (λ z. Unit {0}) w
 
 -- rule 4.8, the answer of a side: it leads among the corners of that side
-abbrev pub IsSideAnswer : Pair → Side → CornerGap → Type 0
-IsSideAnswer pair s w = Leads pair (λ z. z .side ≡ s) w
+abbrev pub IsSideAnswer : Pair → Orientations → Side → CornerGap → Type 0
+IsSideAnswer pair os s w = Leads pair os (λ z. z .side ≡ s) w
 
 -- rule 4.4: the greatest gap over all corners of both
 pub record TrueFigure (pair : Pair) (g : Fraction) : Type 0 where

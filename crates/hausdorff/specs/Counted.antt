@@ -17,7 +17,7 @@ use Rattle.nearest.specs.Piece.{sideOf, Outside}
 use Rattle.hausdorff.specs.declared.CornerGap.{CornerGap}
 use Rattle.hausdorff.specs.declared.WorstSoFar.{WorstSoFar}
 use Rattle.hausdorff.specs.declared.WorstSoFar.the-variants.{None, Worst}
-use Rattle.hausdorff.specs.Pair.{Pair, other}
+use Rattle.hausdorff.specs.Pair.{Pair, Orientations, other}
 use Rattle.hausdorff.specs.Answer.{Leads}
 use Rattle.hausdorff.specs.Support.{supportAfter}
 
@@ -47,15 +47,15 @@ abbrev pub Counted : Pair → ℕ → Side → ℕ → Type 0
 Counted pair k s i = (j : ℕ) × (j < k) × CountsAfter pair j s i
 
 -- the greatest of some gaps, of equals the first; or none, if there are none of these
-abbrev pub LeadsOrNone : Pair → (CornerGap → Type 0) → WorstSoFar → Type 0
-LeadsOrNone pair Among None = (z : CornerGap) → ¬ Among z
-LeadsOrNone pair Among (Worst w) = Leads pair Among w
+abbrev pub LeadsOrNone : Pair → Orientations → (CornerGap → Type 0) → WorstSoFar → Type 0
+LeadsOrNone pair os Among None = (z : CornerGap) → ¬ Among z
+LeadsOrNone pair os Among (Worst w) = Leads pair os Among w
 
 -- rule 5.7, the worst so far after k steps: the greatest gap that counts in them, of equals the first; or none, if
 -- none counts
-abbrev pub IsWorst : Pair → ℕ → WorstSoFar → Type 0
-IsWorst pair k x = LeadsOrNone pair (λ z. Counted pair k (z .side) (z .corner)) x
+abbrev pub IsWorst : Pair → Orientations → ℕ → WorstSoFar → Type 0
+IsWorst pair os k x = LeadsOrNone pair os (λ z. Counted pair k (z .side) (z .corner)) x
 
 -- rule 5.8, the worst so far of a side: the same, of what counts of that side
-abbrev pub IsSideWorst : Pair → ℕ → Side → WorstSoFar → Type 0
-IsSideWorst pair k s x = LeadsOrNone pair (λ z. (z .side ≡ s) × Counted pair k s (z .corner)) x
+abbrev pub IsSideWorst : Pair → Orientations → ℕ → Side → WorstSoFar → Type 0
+IsSideWorst pair os k s x = LeadsOrNone pair os (λ z. (z .side ≡ s) × Counted pair k s (z .corner)) x

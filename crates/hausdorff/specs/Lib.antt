@@ -8,5 +8,6 @@ pub mod AngularOrder
 pub mod Support
 pub mod Counted
 pub mod Law
+pub mod Given
 pub mod Call
 pub mod code

@@ -1,4 +1,4 @@
-// The examples about reading an outline and removing a corner, and cases at the limits, run through the
+// The examples about reading an outline strictly and removing a corner, and cases at the limits, run through the
 // public calls. Each prints one line.
 mod large;
 mod report;

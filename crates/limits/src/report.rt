@@ -22,9 +22,9 @@ fn print_verdict(name: &[u8], verdict: Verdict) {
     }
 }
 
-// Reads a list.
+// Reads a list strictly.
 pub fn reading(name: &[u8], s: &[i32]) {
-    let reading = calls::read_outline(s);
+    let reading = calls::read_outline_strict(s);
     let verdict = reading.verdict;
     print_verdict(name, verdict);
     if let Verdict::Taken = verdict {

@@ -26,7 +26,7 @@ use Rattle.outline.specs.declared.Side.{Side}
 use Rattle.hausdorff.specs.declared.CornerGap.{CornerGap}
 use Rattle.hausdorff.specs.declared.WorstSoFar.{WorstSoFar}
 use Rattle.hausdorff.specs.declared.WorstSoFar.the-variants.{None, Worst}
-use Rattle.hausdorff.specs.Pair.{Pair, other}
+use Rattle.hausdorff.specs.Pair.{Pair, Orientations, other}
 use Rattle.hausdorff.specs.code.Pair.{AcceptedPair}
 use Rattle.hausdorff.specs.Counted.{Counted}
 use Rattle.hausdorff.specs.code.Sweep.{worstAfter}
@@ -75,10 +75,12 @@ localValues-bounded {w} window v f =
     (window-bounded (window .accepted) (w .number) (window .known) v f)
 
 -- the worst so far is the gap of a corner to the other outline
-pub worst-bounded : (pair : Pair) → AcceptedPair pair → (k : ℕ) (s : Side) → BoundedWorst (worstAfter pair k s)
-worst-bounded pair ok k s = go (worstAfter pair k s) (worst-after pair (λ t. accepted-polygon (ok t)) s k)
+pub worst-bounded : (pair : Pair) (os : Orientations) → AcceptedPair pair → (k : ℕ) (s : Side)
+    → BoundedWorst (worstAfter pair os k s)
+worst-bounded pair os ok k s =
+    go (worstAfter pair os k s) (worst-after pair (λ t. accepted-polygon (ok t)) s os k)
   where
-    go : (x : WorstSoFar) → WorstOf pair s (Counted pair k s) x → BoundedWorst x
+    go : (x : WorstSoFar) → WorstOf pair os s (Counted pair k s) x → BoundedWorst x
     go None none = tt
     go (Worst w) best =
         let v = corner (pair s) (w .corner) in

@@ -19,8 +19,8 @@ abbrev pub BoundedWorst : WorstSoFar → Type 0
 BoundedWorst None = Unit {0}
 BoundedWorst (Worst w) = Bounded (w .gap)
 
--- corner i, with this gap, takes the place of another of its side: `takesPlace` of `hausdorff`, where a corner's shown
--- number is its own
+-- corner i, with this gap, takes the place of another of its side: `takesPlace` of `hausdorff`, where the corners have
+-- their numbers as given
 abbrev pub isWorse : Fraction → ℕ → CornerGap → Bool
 isWorse gap i old = isLess (old .gap) gap || (not (isLess gap (old .gap)) && ltb i (old .corner))
 

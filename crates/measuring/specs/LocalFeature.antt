@@ -9,7 +9,9 @@ use Rattle.nearest.specs.declared.Feature.{Feature}
 use Rattle.nearest.specs.declared.Feature.the-variants as Feature
 use Rattle.nearest.specs.declared.NearestPoint.{NearestPoint}
 use Rattle.nearest.specs.Feature.{withinValues, cornerValues, edgeValues}
+use Rattle.nearest.specs.Given.{givenNearest}
 use Rattle.nearest.specs.code.Local.{feature}
+use Rattle.outline.specs.declared.Orientation.{Orientation}
 use Rattle.outline.specs.declared.Side.{Side}
 use Rattle.hausdorff.specs.declared.WorstSoFar.{WorstSoFar}
 use Rattle.hausdorff.specs.declared.WorstSoFar.the-variants.{None, Worst}
@@ -53,3 +55,8 @@ localValues v w LocalFeature.CornerBefore = cornerValues v (previous (w .count) 
 -- what measuring finds of corner i, at v: none, or the corner with its gap
 abbrev pub localWorst : Side → ℕ → Corner → Window → LocalFeature → WorstSoFar
 localWorst s i v w f = cond (isNotCounted f) None (Worst (withCorner s i (localValues v w f)))
+
+-- the same with the feature by its number as given, where the window's list has the orientation o
+abbrev pub localGiven : Side → ℕ → Corner → Orientation → Window → LocalFeature → WorstSoFar
+localGiven s i v o w f =
+    cond (isNotCounted f) None (Worst (withCorner s i (givenNearest o (w .count) (localValues v w f))))

@@ -5,6 +5,7 @@ use integers::fraction;
 use integers::fraction::Fraction;
 use integers::fraction::Order;
 use nearest::NearestPoint;
+use outline::Orientation;
 use outline::Side;
 use plane::Corner;
 use plane::Vector;
@@ -18,8 +19,8 @@ ghost use Rattle.plane.specs.Range.{InRange};
 ghost use Rattle.plane.specs.code.Range.{Span, reach};
 ghost use Rattle.hausdorff.specs.CornerGap.{withCorner};
 ghost use Rattle.hausdorff.specs.code.Worst.{keep};
-ghost use Rattle.measuring.specs.Window.{IsWindow};
-ghost use Rattle.measuring.specs.LocalFeature.{featureOf, countedFeature, isNotCounted, localValues, localWorst};
+ghost use Rattle.measuring.specs.Window.{givenNumber, IsWindow};
+ghost use Rattle.measuring.specs.LocalFeature.{featureOf, countedFeature, isNotCounted, localValues, localGiven};
 ghost use Rattle.measuring.specs.EdgePart.{endIsNearest, edgePart, cornerIf, byParts};
 ghost use Rattle.measuring.specs.Changes.{BoundedWorst, isWorse, changes};
 
@@ -215,19 +216,38 @@ fn is_worse(gap: Fraction, number: usize, old: CornerGap) -> bool
     }
 }
 
-// Whether the worst so far of a side changes when its support corner, v, is measured; f is what `local_feature` found.
-pub fn changes(number: usize, v: Corner, w: Window, f: LocalFeature, old: WorstSoFar) -> bool
-    requires { ⌜ InRange v ⌝ }
+// The number of the support corner in the list as given.
+fn given_number(orientation: Orientation, w: Window) -> usize
+    requires { ⌜ IsWindow w ⌝ }
+    ensures { λ r. ⌜ r ≡ givenNumber orientation w ⌝ }
+{
+    corners::given_corner(orientation, w.count, w.number)
+}
+
+// Whether the worst so far of a side changes when its support corner, that of `own`, is measured against the one of `w`;
+// f is what `local_feature` found. Of equal gaps the numbers as given decide, by the orientation of the side's list.
+pub fn changes(
+    of_own: Orientation,
+    own: Window,
+    w: Window,
+    f: LocalFeature,
+    old: WorstSoFar,
+) -> bool
+    requires { ⌜ IsWindow own ⌝ }
     requires { ⌜ IsWindow w ⌝ }
     requires { ⌜ BoundedWorst old ⌝ }
-    ensures { λ r. ⌜ r ≡ changes number v w f old ⌝ }
+    ensures { λ r. ⌜ r ≡ changes (givenNumber «of_own» own) (own .corner) w f old ⌝ }
 {
     if is_not_counted(f) {
         return false;
     }
     match old {
         WorstSoFar::None => true,
-        WorstSoFar::Worst(o) => is_worse(local_values(v, w, f).gap, number, o),
+        WorstSoFar::Worst(o) => is_worse(
+            local_values(own.corner, w, f).gap,
+            given_number(of_own, own),
+            o,
+        ),
     }
 }
 
@@ -247,22 +267,25 @@ pub fn with_corner(side: Side, number: usize, a: NearestPoint) -> CornerGap
     }
 }
 
-// The worst so far of a side once its support corner, v, is measured; f is what `local_feature` found.
+// The worst so far of a side, by the lists as given, once its support corner, that of `own`, is measured against the one
+// of `w`; f is what `local_feature` found.
 pub fn keep(
     side: Side,
-    number: usize,
-    v: Corner,
+    of_own: Orientation,
+    own: Window,
+    of_w: Orientation,
     w: Window,
     f: LocalFeature,
     old: WorstSoFar,
 ) -> WorstSoFar
-    requires { ⌜ InRange v ⌝ }
+    requires { ⌜ IsWindow own ⌝ }
     requires { ⌜ IsWindow w ⌝ }
     requires { ⌜ BoundedWorst old ⌝ }
-    ensures { λ r. ⌜ r ≡ keep (λ (i : ℕ). i) old (localWorst side number v w f) ⌝ }
+    ensures { λ r. ⌜ r ≡ keep (λ (i : ℕ). i) old (localGiven side (givenNumber «of_own» own) (own .corner) «of_w» w f) ⌝ }
 {
-    if !changes(number, v, w, f, old) {
+    if !changes(of_own, own, w, f, old) {
         return old;
     }
-    WorstSoFar::Worst(with_corner(side, number, local_values(v, w, f)))
+    let nearest = answers::given_nearest(of_w, w.count, local_values(own.corner, w, f));
+    WorstSoFar::Worst(with_corner(side, given_number(of_own, own), nearest))
 }

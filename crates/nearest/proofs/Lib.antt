@@ -10,5 +10,8 @@ pub mod AnswerLaws
 pub mod GapLimit
 pub mod SearchLaws
 pub mod Scaling
+pub mod GivenLaws
 pub mod CallLaws
 pub mod Rotation
+pub mod RotationNearest
+pub mod Reversal

@@ -2,6 +2,7 @@
 pub mod Piece
 pub mod Feature
 pub mod Nearest
+pub mod Given
 pub mod Search
 pub mod Call
 pub mod code

@@ -1,4 +1,5 @@
 -- For code and proofs alone.
 pub mod Local
 pub mod Scaling
+pub mod Given
 pub mod Call

@@ -3,13 +3,20 @@
 --     check-refused        a list is refused exactly where a condition applies, with the refusal of the first that does
 --     check-taken          it is taken exactly where no condition applies
 --     none-accepted, accepted    that is: its length is even and the outline of its corners is accepted
---     range-taken          the check 4 takes exactly where all corners are in range
+--     convex-decides       6 alone
+--     range-taken, convex-taken    the check 4 takes exactly where all corners are in range, and 6 where they are
+--                          strictly convex
+-- Of 1 to 5, which both readings have:
+--     Sized                a list of even length, with 3 to 256 corners, all in range
+--     common-decide        each check decides its condition, and so does one more
+--     common-none, common-sized    none applies to such a list without equal neighbours, and only to such a list
+--     lengths-sized        the checks 1 to 3 take, and all corners are in range: it is such a list
 --     convex-accepted      where the length is right and the corners are in range and strictly convex, all checks take
-use Prim.Native.Nat.{ℕ, _<_, _%_}
+use Prim.Native.Nat.{ℕ, _<_, _≤_, _%_}
 use mathlib.Core.Path.{_≡_, refl}
 use mathlib.Core.Logic.{_↔_, Iff·trans, _≢_}
 use mathlib.Core.Bool.{Bool, true, not}
-use mathlib.Core.List.{List}
+use mathlib.Core.List.{List, [], _∷_, _++_}
 use native.Mathlib.Omega.{arith}
 use lib.Dec.{eqb}
 use lib.IntN.{ℤ}
@@ -23,19 +30,21 @@ use Rattle.plane.proofs.Tests.{inRange-true, same-true, isLeft-true}
 use Rattle.outline.specs.declared.Place.the-variants.{Nowhere}
 use Rattle.outline.specs.declared.Refusal.{Refusal}
 use Rattle.outline.specs.declared.RefusedSide.{RefusedSide}
+use Rattle.outline.specs.declared.Verdict.{Verdict}
 use Rattle.outline.specs.declared.Verdict.the-variants.{Taken, Refused}
-use Rattle.outline.specs.Conditions.{NotLeftOf, outOfRange, repeated, notLeft, readingConditions, AcceptedList}
+use Rattle.outline.specs.Conditions.{NotLeftOf, outOfRange, repeated, notLeft, commonConditions}
+use Rattle.outline.specs.Conditions.{readingConditions, AcceptedList}
 use Rattle.outline.specs.Convex.{AllInRange, LeftOf, StrictlyConvex}
 use Rattle.outline.specs.Corners.{corners, corner, next, edge, fewest, most}
 use Rattle.outline.specs.code.Reading.{isOutOfRange, isRepeated, isNotLeft}
 use Rattle.outline.specs.code.Checks.{first}
 use Rattle.outline.specs.code.Reading.{checkRange, checkRepeated, checkEdge, checkConvex}
 use Rattle.outline.specs.code.Reading.{lengthChecks, checks, check}
-use Rattle.outline.specs.Refusal.{FirstFault}
+use Rattle.outline.specs.Refusal.{Condition, FirstFault}
 use Rattle.outline.proofs.ChecksLaws.{orElse-taken, refuseIf-taken}
 use Rattle.outline.proofs.EdgeLaws.{accepted-polygon, polygon-distinct}
 use Rattle.outline.proofs.ConditionLaws.{_and_, Decides, AllDecide, decides-taken, first-refused, first-taken}
-use Rattle.outline.proofs.ConditionLaws.{NoneApplies, nowhere-plain, lowest-none, nowhere-edge}
+use Rattle.outline.proofs.ConditionLaws.{NoneApplies, nowhere-plain, lowest-none, decide-append, none-append}
 use Rattle.outline.proofs.ConditionLaws.{test-decides, tests-taken, lowest-decides, edges-taken, edges-decide}
 
 -- ---- each check of the corners: its test, by its meaning; that it decides its condition; what it means that it takes
@@ -47,7 +56,7 @@ module _ (cs : List Corner) where
   outOfRange-true : (i : ℕ) → (isOutOfRange cs i ≡ true) ↔ (¬ InRange (corner cs i))
   outOfRange-true i = test-not (inRange (corner cs i)) (inRange-true (corner cs i))
 
-  pub range-decides : (whose : RefusedSide) → Decides (checkRange whose cs) (outOfRange whose cs)
+  range-decides : (whose : RefusedSide) → Decides (checkRange whose cs) (outOfRange whose cs)
   unfolding checkRange
   range-decides whose = lowest-decides _ whose _ outOfRange-true n
 
@@ -65,7 +74,7 @@ module _ (cs : List Corner) where
   repeated-true : (i : ℕ) → (isRepeated cs i ≡ true) ↔ (corner cs i ≡ corner cs (next n i))
   repeated-true i = same-true (corner cs i) (corner cs (next n i))
 
-  pub repeated-decides : (whose : RefusedSide) → Decides (checkRepeated whose cs) (repeated whose cs)
+  repeated-decides : (whose : RefusedSide) → Decides (checkRepeated whose cs) (repeated whose cs)
   unfolding checkRepeated
   repeated-decides whose = lowest-decides _ whose _ repeated-true n
 
@@ -93,7 +102,7 @@ module _ (cs : List Corner) where
   unfolding checkConvex checkEdge
   convex-decides whose = edges-decide _ whose _ isNotLeft-true n
 
-  convex-taken : (whose : RefusedSide) → (checkConvex whose cs ≡ Taken) ↔ StrictlyConvex cs
+  pub convex-taken : (whose : RefusedSide) → (checkConvex whose cs ≡ Taken) ↔ StrictlyConvex cs
   unfolding checkConvex checkEdge
   convex-taken whose = Iff·trans (edges-taken _ whose _ isNotLeft-true n) (
     λ none e c e-below c-below not-start not-end.
@@ -103,17 +112,68 @@ module _ (cs : List Corner) where
         found .not-left (convex e c e-below c-below (found .not-start) (found .not-end)),
   )
 
+-- ---- 1 to 5
+-- a list of even length, with 3 to 256 corners, all in range
+pub record Sized (s : List ℤ) : Type 0 where
+  pub even : length s % 2 ≡ 0
+  pub at-least : fewest ≤ length (corners s)
+  pub at-most : length (corners s) ≤ most
+  pub in-range : AllInRange (corners s)
+
+module _ (whose : RefusedSide) (s : List ℤ) where
+  abbrev cs : List Corner
+  cs = corners s
+
+  -- the checks of 1 to 5
+  abbrev commonChecks : List Verdict
+  commonChecks = lengthChecks whose s ++ (checkRange whose cs ∷ checkRepeated whose cs ∷ [])
+
+  pub common-decide : (v : Verdict) (c : Condition) → Decides v c
+      → AllDecide (commonChecks ++ (v ∷ [])) (commonConditions whose s ++ (c ∷ []))
+  common-decide v c decides =
+      decide-append commonChecks (v ∷ []) (commonConditions whose s) (c ∷ []) (
+      test-decides _ whose _ (test-eqb (length s % 2) 1)
+      and test-decides _ whose _ (test-ltb (length cs) fewest)
+      and test-decides _ whose _ (test-ltb most (length cs))
+      and range-decides cs whose
+      and repeated-decides cs whose
+      and tt
+      ) (decides and tt)
+
+  sized : ¬ (length s % 2 ≡ 1) → ¬ (length cs < fewest) → ¬ (most < length cs) → AllInRange cs → Sized s
+  sized odd few many all = record { even = omega arith; at-least = omega arith; at-most = omega arith; in-range = all }
+
+  -- none of them applies to such a list, if no corner is equal to the following one, and then to no other
+  pub common-none : Sized s → ((i : ℕ) → i < length cs → corner cs i ≢ corner cs (next (length cs) i))
+      → NoneApplies (commonConditions whose s)
+  common-none ok distinct =
+      nowhere-plain (λ odd. omega (arith, ok .even))
+      and nowhere-plain (λ few. omega (arith, ok .at-least))
+      and nowhere-plain (λ many. omega (arith, ok .at-most))
+      and lowest-none _ (outOfRange-true cs) _ .1 (in-range cs .1 (ok .in-range))
+      and lowest-none _ (repeated-true cs) _ .1 distinct
+      and tt
+
+  pub common-sized : NoneApplies (commonConditions whose s) → Sized s
+  common-sized (not-odd, (not-few, (not-many, (none-out, _)))) =
+      sized (λ is. not-odd (Nowhere, (refl, is))) (λ is. not-few (Nowhere, (refl, is)))
+      (λ is. not-many (Nowhere, (refl, is))) (in-range cs .0 (lowest-none _ (outOfRange-true cs) _ .0 none-out))
+
+  -- where the checks 1 to 3 take
+  pub lengths-sized : first (lengthChecks whose s) ≡ Taken → AllInRange cs → Sized s
+  lengths-sized lengths all =
+      let (odd, rest) = orElse-taken _ _ .0 lengths in
+      let (few, last) = orElse-taken _ _ .0 rest in
+      let (many, _) = orElse-taken _ _ .0 last in
+      sized (refuseIf-taken _ (test-eqb (length s % 2) 1) _ .0 odd)
+      (refuseIf-taken _ (test-ltb (length cs) fewest) _ .0 few)
+      (refuseIf-taken _ (test-ltb most (length cs)) _ .0 many)
+      all
+
 -- ---- all checks
 module _ (whose : RefusedSide) (s : List ℤ) where
   pub checks-decide : AllDecide (checks whose s) (readingConditions whose s)
-  checks-decide =
-      test-decides _ whose _ (test-eqb (length s % 2) 1)
-      and test-decides _ whose _ (test-ltb (length (corners s)) fewest)
-      and test-decides _ whose _ (test-ltb most (length (corners s)))
-      and range-decides (corners s) whose
-      and repeated-decides (corners s) whose
-      and convex-decides (corners s) whose
-      and tt
+  checks-decide = common-decide whose s _ _ (convex-decides (corners s) whose)
 
   pub check-refused : (r : Refusal) → (check whose s ≡ Refused r) ↔ FirstFault (readingConditions whose s) r
   unfolding check
@@ -123,47 +183,32 @@ module _ (whose : RefusedSide) (s : List ℤ) where
   unfolding check
   check-taken = first-taken (checks whose s) (readingConditions whose s) checks-decide
 
-module _ (whose : RefusedSide) (s : List ℤ) where
-  abbrev cs : List Corner
-  cs = corners s
-
-  -- a list to which none of 1, 2, 3, 4 and 6 applies
-  by-parts : ¬ (length s % 2 ≡ 1) → ¬ (length cs < fewest) → ¬ (most < length cs) → AllInRange cs → StrictlyConvex cs
-      → AcceptedList s
-  by-parts odd few many all convex =
-      (omega arith, record { at-least = omega arith; at-most = omega arith; in-range = all; convex = convex })
+  -- such a list whose corners are strictly convex
+  sized-accepted : Sized s → StrictlyConvex (corners s) → AcceptedList s
+  sized-accepted ok convex = (
+    ok .even,
+    record { at-least = ok .at-least; at-most = ok .at-most; in-range = ok .in-range; convex = convex },
+  )
 
   pub none-accepted : NoneApplies (readingConditions whose s) ↔ AcceptedList s
-  none-accepted = (there, back)
+  none-accepted = Iff·trans (none-append (commonConditions whose s) (notLeft whose (corners s) ∷ [])) (there, back)
     where
-      there : NoneApplies (readingConditions whose s) → AcceptedList s
-      there (not-odd, (not-few, (not-many, (none-out, (none-repeated, (none-not-left, _)))))) =
-          by-parts (λ is. not-odd (Nowhere, (refl, is))) (λ is. not-few (Nowhere, (refl, is)))
-          (λ is. not-many (Nowhere, (refl, is)))
-          (in-range cs .0 (lowest-none _ (outOfRange-true cs) _ .0 none-out))
-          (convex-taken cs whose .0 (decides-taken (convex-decides cs whose) .1 none-not-left))
+      there : NoneApplies (commonConditions whose s) × NoneApplies (notLeft whose (corners s) ∷ []) → AcceptedList s
+      there (none, (none-not-left, _)) = sized-accepted (common-sized whose s none)
+          (convex-taken (corners s) whose .0 (decides-taken (convex-decides (corners s) whose) .1 none-not-left))
 
-      back : AcceptedList s → NoneApplies (readingConditions whose s)
-      back (even, ok) =
-          nowhere-plain (λ odd. omega arith)
-          and nowhere-plain (λ few. omega (arith, ok .at-least))
-          and nowhere-plain (λ many. omega (arith, ok .at-most))
-          and lowest-none _ (outOfRange-true cs) _ .1 (in-range cs .1 (ok .in-range))
-          and lowest-none _ (repeated-true cs) _ .1 (polygon-distinct (accepted-polygon ok))
-          and nowhere-edge (λ e c (edge, low). low .here .not-left
-          (ok .convex e c (edge .below) (low .below) (low .here .not-start) (low .here .not-end)))
-          and tt
+      back : AcceptedList s → NoneApplies (commonConditions whose s) × NoneApplies (notLeft whose (corners s) ∷ [])
+      back (even, ok) = (
+        common-none whose s
+            (record { even = even; at-least = ok .at-least; at-most = ok .at-most; in-range = ok .in-range })
+            (polygon-distinct (accepted-polygon ok)),
+        decides-taken (convex-decides (corners s) whose) .0 (convex-taken (corners s) whose .1 (ok .convex)) and tt,
+      )
 
   pub accepted : (check whose s ≡ Taken) ↔ AcceptedList s
-  accepted = Iff·trans (check-taken whose s) none-accepted
+  accepted = Iff·trans check-taken none-accepted
 
   -- three or more strictly convex corners have no equal neighbours, so 5 takes too
-  pub convex-accepted : first (lengthChecks whose s) ≡ Taken → AllInRange cs → StrictlyConvex cs → check whose s ≡ Taken
-  convex-accepted lengths all convex =
-      let (odd, rest) = orElse-taken _ _ .0 lengths in
-      let (few, last) = orElse-taken _ _ .0 rest in
-      let (many, _) = orElse-taken _ _ .0 last in
-      accepted .1 (by-parts (refuseIf-taken _ (test-eqb (length s % 2) 1) _ .0 odd)
-      (refuseIf-taken _ (test-ltb (length cs) fewest) _ .0 few)
-      (refuseIf-taken _ (test-ltb most (length cs)) _ .0 many)
-      all convex)
+  pub convex-accepted : first (lengthChecks whose s) ≡ Taken → AllInRange (corners s) → StrictlyConvex (corners s)
+      → check whose s ≡ Taken
+  convex-accepted lengths all convex = accepted .1 (sized-accepted (lengths-sized whose s lengths all) convex)

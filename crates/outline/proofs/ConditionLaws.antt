@@ -9,7 +9,7 @@
 --                                   where none does
 --     decide-append, none-append, fault-append    of two lists, one after the other
 --     allNumbers, fault-number      a test that each condition's number passes, a refusal's passes
---     nowhere-plain, nowhere-edge    a condition that applies nowhere
+--     nowhere-plain                 a condition without a place that applies nowhere
 --     lowest-none                   one with a number applies nowhere exactly where no number below n passes its test
 -- A check that decides a condition:
 --     test-decides                  without a place, by a test
@@ -133,9 +133,6 @@ nowhere-plain none (p, (here, holds)) = none holds
 
 nowhere-number : {P : ℕ → Type 0} → ((i : ℕ) → ¬ P i) → ¬ ((p : Place) × atNumber P p)
 nowhere-number none (p, (i, here, holds)) = none i holds
-
-pub nowhere-edge : {P : ℕ → ℕ → Type 0} → ((e c : ℕ) → ¬ P e c) → ¬ ((p : Place) × atEdgeAndCorner P p)
-nowhere-edge none (p, (e, c, here, holds)) = none e c holds
 
 -- ---- tests at the numbers below n
 module _ {P : ℕ → Type 0} (t : ℕ → Bool) (means : (i : ℕ) → (t i ≡ true) ↔ P i) (refusalAt : ℕ → Refusal) (n : ℕ) where

@@ -6,5 +6,7 @@ pub mod ConditionLaws
 pub mod Acceptance
 pub mod LeftTurns
 pub mod TurnsLaws
+pub mod OrientationLaws
 pub mod HeldLaws
 pub mod ReadingLaws
+pub mod EitherLaws

@@ -2,13 +2,14 @@
 use Prim.Native.Nat.{ℕ, _<_, _%_}
 use mathlib.Core.Path.{_≡_}
 use mathlib.Core.Logic.{_≢_}
-use mathlib.Core.List.{List, [], _∷_}
+use mathlib.Core.List.{List, [], _∷_, _++_}
 use lib.IntN.{ℤ}
 use lib.ListN.{length}
 use Rattle.plane.specs.declared.Corner.{Corner}
 use Rattle.plane.specs.Range.{InRange}
 use Rattle.outline.specs.declared.RefusedSide.{RefusedSide}
 use Rattle.outline.specs.Convex.{LeftOf, Accepted}
+use Rattle.outline.specs.Orientation.{StrictlyClockwise}
 use Rattle.outline.specs.Corners.{corners, corner, next, fewest, most}
 use Rattle.outline.specs.Refusal.{Condition, withoutPlace, atNumber, atEdgeAndCorner}
 
@@ -64,15 +65,32 @@ notLeft whose cs = record {
   applies = atEdgeAndCorner (λ e c. Lowest (SomeNotLeftOf cs) (length cs) e × Lowest (NotLeftOf cs e) (length cs) c);
 }
 
--- 2 to 6, of corners
-abbrev pub cornerConditions : RefusedSide → List Corner → List Condition
-cornerConditions whose cs =
-    tooFew whose cs ∷ tooMany whose cs ∷ outOfRange whose cs ∷ repeated whose cs ∷ notLeft whose cs ∷ []
+-- 6 in the default reading: the corners fit neither orientation; the place is that of 6 in the strict reading
+abbrev pub fitsNeither : RefusedSide → List Corner → Condition
+fitsNeither whose cs = record {
+  number = 6;
+  side = whose;
+  applies = λ p. (¬ StrictlyClockwise cs) × notLeft whose cs .applies p;
+}
 
--- all six, in their order
+-- 1 to 5, in their order, which both readings have
+abbrev pub commonConditions : RefusedSide → List ℤ → List Condition
+commonConditions whose s =
+    oddLength whose s
+    ∷ tooFew whose (corners s)
+    ∷ tooMany whose (corners s)
+    ∷ outOfRange whose (corners s)
+    ∷ repeated whose (corners s)
+    ∷ []
+
+-- all six of the strict reading
 abbrev pub readingConditions : RefusedSide → List ℤ → List Condition
-readingConditions whose s = oddLength whose s ∷ cornerConditions whose (corners s)
+readingConditions whose s = commonConditions whose s ++ (notLeft whose (corners s) ∷ [])
 
--- the list gives an accepted outline: its length is even and its corners are accepted
+-- all six of the default reading
+abbrev pub eitherConditions : RefusedSide → List ℤ → List Condition
+eitherConditions whose s = commonConditions whose s ++ (fitsNeither whose (corners s) ∷ [])
+
+-- the strict reading accepts the list: its length is even and its corners are accepted
 abbrev pub AcceptedList : List ℤ → Type 0
 AcceptedList s = (length s % 2 ≡ 0) × Accepted (corners s)

@@ -1,4 +1,4 @@
--- Rule 7.2: what the call that reads an outline gives.
+-- Rule 7.2: what the call gives that reads an outline strictly.
 use mathlib.Core.Path.{_≡_}
 use mathlib.Core.List.{List, []}
 use lib.IntN.{ℤ}
@@ -10,7 +10,7 @@ use Rattle.outline.specs.Conditions.{readingConditions, AcceptedList}
 use Rattle.outline.specs.Corners.{corners, held}
 use Rattle.outline.specs.Refusal.{FirstFault}
 
--- `result` is what reading the list s gives
+-- `result` is what the strict reading of the list s gives
 pub data IsReading (whose : RefusedSide) (s : List ℤ) (result : Reading) : Type 0 where
   -- the refusal of the first of 1 to 6 that applies, with an outline without corners
   refused : (r : Refusal) → FirstFault (readingConditions whose s) r

@@ -5,3 +5,4 @@ pub mod Unfilled
 pub mod Checks
 pub mod Turns
 pub mod Reading
+pub mod Either

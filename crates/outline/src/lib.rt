@@ -44,8 +44,22 @@ pub enum Verdict {
     Refused(Refusal),
 }
 
-// What reading a list gives: the outline, or the refusal and an outline without corners.
+// What the strict reading of a list gives: the outline, or the refusal and an outline without corners.
 pub struct Reading {
     pub verdict: Verdict,
     pub outline: Outline,
+}
+
+// Rule 1.9, how the corners of a list go round.
+pub enum Orientation {
+    Counterclockwise,
+    Clockwise,
+}
+
+// What the default reading of a list gives: the outline as it is held, and the orientation of the list; or the refusal,
+// an outline without corners, and Counterclockwise.
+pub struct EitherReading {
+    pub verdict: Verdict,
+    pub outline: Outline,
+    pub orientation: Orientation,
 }

@@ -7,6 +7,7 @@
 --     cross-swap, dot-swap            the arguments exchanged
 --     cross-back                      e is not right of d exactly where d is not left of e
 --     side-end, side-turn             a side number from the edge's other end; of three points taken round
+--     side-back                       a point is left of an edge exactly where it is right of the edge the other way
 --     side-same                       against an edge from a point to itself it is 0
 --     side-start, side-stop           and so it is of the edge's own ends
 --     dot-less, dot-back              dot u is not above 0 from p to q where it is not greater at q; and then not
@@ -79,6 +80,13 @@ side-end p q v = solve (coordinates (p ∷ q ∷ v ∷ [])) (sideE (vec 0) (vec 
 pub side-turn : (p q v : Corner) → side p q v ≡ side q v p
 unfolding cross _⇀_
 side-turn p q v = solve (coordinates (p ∷ q ∷ v ∷ [])) (sideE (vec 0) (vec 2) (vec 4)) (sideE (vec 2) (vec 4) (vec 0)) tt
+
+pub side-back : (p q v : Corner) → (pos 0 <ℤ side q p v) ↔ (side p q v <ℤ pos 0)
+unfolding cross _⇀_
+side-back p q v =
+    let env : List ℤ = coordinates (p ∷ q ∷ v ∷ []) in
+    let there = sideE (vec 0) (vec 2) (vec 4) in let back = sideE (vec 2) (vec 0) (vec 4) in
+    (prove env (O ≺ back ∷ []) (there ≺ O) (hyp 0 ⊞ hyp 1) tt, prove env (there ≺ O ∷ []) (O ≺ back) (hyp 0 ⊞ hyp 1) tt)
 
 pub side-same : (p v : Corner) → side p p v ≡ pos 0
 unfolding cross _⇀_

@@ -2,15 +2,20 @@
 use integers::fraction::Fraction;
 use nearest::Feature;
 use nearest::NearestPoint;
+use outline::Orientation;
 use plane::Corner;
 use plane::Point;
 use plane::Vector;
+use reading::corners::given_corner;
+use reading::corners::given_edge;
 ghost use mathlib.Core.Path.{_≡_};
 ghost use lib.IntN.{_+ℤ_, _*ℤ_};
 ghost use Rattle.integers.specs.Size.{AtMost};
 ghost use Rattle.plane.specs.Range.{InRange, limit};
 ghost use Rattle.plane.specs.code.Range.{Span, reach, productLimit};
 ghost use Rattle.nearest.specs.Feature.{withinValues, cornerValues, edgeGap, footOn, edgeValues};
+ghost use Rattle.nearest.specs.Given.{givenFeature, givenNearest};
+ghost use Rattle.nearest.specs.code.Given.{FeatureBelow};
 
 // v is in the piece.
 pub fn within(v: Corner) -> NearestPoint
@@ -97,5 +102,32 @@ pub fn on_edge(v: Corner, i: usize, p: Corner, q: Corner) -> NearestPoint
         feature: Feature::Edge(i),
         gap: edge_gap(run, to),
         point: foot(p, run, to),
+    }
+}
+
+// A feature of an outline of n corners by its number in the list as given.
+fn given_feature(orientation: Orientation, n: usize, feature: Feature) -> Feature
+    requires { ⌜ FeatureBelow n feature ⌝ }
+    ensures { λ r. ⌜ r ≡ givenFeature orientation n feature ⌝ }
+{
+    match feature {
+        Feature::Within => Feature::Within,
+        Feature::Corner(i) => Feature::Corner(given_corner(orientation, n, i)),
+        Feature::Edge(i) => Feature::Edge(given_edge(orientation, n, i)),
+    }
+}
+
+// A nearest point with its feature by the number in the list as given.
+pub fn given_nearest(orientation: Orientation, n: usize, a: NearestPoint) -> NearestPoint
+    requires { ⌜ FeatureBelow n (a .feature) ⌝ }
+    ensures { λ r. ⌜ r ≡ givenNearest orientation n a ⌝ }
+{
+    let feature = a.feature;
+    let gap = a.gap;
+    let point = a.point;
+    NearestPoint {
+        feature: given_feature(orientation, n, feature),
+        gap: gap,
+        point: point,
     }
 }

@@ -2,24 +2,29 @@
 // it first; `whose` is the side that a refusal names.
 use crate::corners::corner;
 use crate::corners::count;
+use crate::corners::held_corner;
 use crate::corners::next;
 use crate::refusals::refuse;
 use outline::FEWEST;
 use outline::MOST;
+use outline::Orientation;
 use outline::Place;
 use outline::RefusedSide;
 use outline::Verdict;
 use plane::Corner;
 use plane::Vector;
 ghost use mathlib.Core.Path.{_≡_};
-ghost use Prim.Native.Nat.{_<_};
+ghost use Prim.Native.Nat.{_<_, _≤_};
 ghost use lib.ListN.{length};
 ghost use Rattle.plane.specs.Range.{InRange};
 ghost use Rattle.plane.specs.code.Range.{Span, reach};
 ghost use Rattle.outline.specs.code.Checks.{first};
 ghost use Rattle.outline.specs.Convex.{AllInRange};
-ghost use Rattle.outline.specs.Corners.{corners};
+ghost use Rattle.outline.specs.Corners.{corners, fewest};
+ghost use Rattle.outline.specs.Orientation.{asHeld};
+ghost use Rattle.outline.specs.code.Either.{orientationOf, checkEither};
 ghost use Rattle.reading.specs.Edge.{edgeOf, isNotLeftOf};
+ghost use Rattle.reading.specs.Numbers.{checkNumbers};
 ghost use Rattle.reading.specs.Shape.{checkShape};
 ghost use Rattle.reading.specs.Visit.{visitOf, InReach, keepsLeftBy};
 ghost use Rattle.outline.specs.code.Turns.{isConvex};
@@ -77,6 +82,16 @@ fn check_range(s: &[i32], whose: RefusedSide) -> Verdict
         i += 1;
     }
     Verdict::Taken
+}
+
+// 1 to 4: the length of the list, and whether its corners are in range.
+fn check_numbers(s: &[i32], whose: RefusedSide) -> Verdict
+    ensures { λ r. ⌜ r ≡ checkNumbers whose (now (s .entry)) ⌝ }
+{
+    if let Verdict::Refused(refusal) = check_length(s, whose) {
+        return Verdict::Refused(refusal);
+    }
+    check_range(s, whose)
 }
 
 // Whether corner i is equal to the following one.
@@ -222,24 +237,39 @@ fn keeps_left_by(run: Vector, last: Visit, visit: Visit) -> bool
     plane::turns_left(last.edge, visit.edge)
 }
 
-// Whether the corners are strictly convex, in one pass that takes each corner out of the list once: `check` takes
-// linear time where they are, and every accepted outline is. Without an edge 0 there is nothing to test. It is right
-// because any three corners, in number order, turn left where each corner keeps left
-// (`outline/proofs/TurnsLaws.antt`).
-fn is_convex(s: &[i32]) -> bool
+// The orientation that the first three corners of a list have: whether corner 2 is strictly left of edge 0.
+pub fn orientation(s: &[i32]) -> Orientation
+    requires { ⌜ fewest ≤ length (corners (now s)) ⌝ }
     requires { ⌜ AllInRange (corners (now s)) ⌝ }
-    ensures { λ r. ⌜ r ≡ isConvex (corners (now (s .entry))) ⌝ }
+    ensures { λ r. ⌜ r ≡ orientationOf (corners (now (s .entry))) ⌝ }
+{
+    let p = corner(s, 0);
+    let run = plane::difference(p, corner(s, 1));
+    if plane::is_left(p, run, corner(s, 2)) {
+        Orientation::Counterclockwise
+    } else {
+        Orientation::Clockwise
+    }
+}
+
+// Whether the corners, as they are held, are strictly convex, in one pass that takes each corner out of the list once:
+// both readings take linear time where they are, and every accepted outline is. Without an edge 0 there is nothing to
+// test. It is right because any three corners, in number order, turn left where each corner keeps left
+// (`outline/proofs/TurnsLaws.antt`).
+fn is_convex(s: &[i32], orientation: Orientation) -> bool
+    requires { ⌜ AllInRange (corners (now s)) ⌝ }
+    ensures { λ r. ⌜ r ≡ isConvex (asHeld orientation (corners (now (s .entry)))) ⌝ }
 {
     let n = count(s);
     if n < 2 {
         return true;
     }
-    let apex = corner(s, 0);
-    let mut last = visit_of(apex, apex, corner(s, 1));
+    let apex = held_corner(s, orientation, 0);
+    let mut last = visit_of(apex, apex, held_corner(s, orientation, 1));
     let run = last.diagonal;
     let mut k = 2;
     while k < n {
-        let visit = visit_of(apex, last.corner, corner(s, k));
+        let visit = visit_of(apex, last.corner, held_corner(s, orientation, k));
         if !keeps_left_by(run, last, visit) {
             return false;
         }
@@ -249,18 +279,30 @@ fn is_convex(s: &[i32]) -> bool
     true
 }
 
-// All checks of a list: what the first that refuses answers. Three or more strictly convex corners have no equal
-// neighbours, and fewer get 2: so 5 and 6 are looked for only where the corners are not strictly convex.
+// All checks of the strict reading, which takes counterclockwise lists only: what the first that refuses answers. Three
+// or more strictly convex corners have no equal neighbours, and fewer get 2: so 5 and 6 are looked for only where the
+// corners are not strictly convex.
 pub fn check(s: &[i32], whose: RefusedSide) -> Verdict
     ensures { λ r. ⌜ r ≡ check whose (now (s .entry)) ⌝ }
 {
-    if let Verdict::Refused(refusal) = check_length(s, whose) {
+    if let Verdict::Refused(refusal) = check_numbers(s, whose) {
         return Verdict::Refused(refusal);
     }
-    if let Verdict::Refused(refusal) = check_range(s, whose) {
+    if is_convex(s, Orientation::Counterclockwise) {
+        return Verdict::Taken;
+    }
+    check_shape(s, whose)
+}
+
+// All checks of the default reading, which takes either orientation: what the first that refuses answers. A list can
+// have only the orientation of its first three corners, so one pass decides for both.
+pub fn check_either(s: &[i32], whose: RefusedSide) -> Verdict
+    ensures { λ r. ⌜ r ≡ checkEither whose (now (s .entry)) ⌝ }
+{
+    if let Verdict::Refused(refusal) = check_numbers(s, whose) {
         return Verdict::Refused(refusal);
     }
-    if is_convex(s) {
+    if is_convex(s, orientation(s)) {
         return Verdict::Taken;
     }
     check_shape(s, whose)

@@ -1,11 +1,14 @@
 // The corners that a list of numbers gives, and the value that holds them.
 use outline::MOST;
+use outline::Orientation;
 use outline::Outline;
 use plane::Corner;
 ghost use mathlib.Core.Path.{_≡_};
 ghost use Prim.Native.Nat.{_<_, _≤_};
+ghost use mathlib.Core.List.{[]};
 ghost use lib.ListN.{length};
 ghost use Rattle.outline.specs.Corners.{corners, corner, next, previous, held, most};
+ghost use Rattle.outline.specs.Orientation.{asHeld, givenCorner, givenEdge};
 ghost use Rattle.outline.specs.code.Unfilled.{unfilled};
 
 // How many corners a list gives.
@@ -42,6 +45,36 @@ pub fn previous(n: usize, i: usize) -> usize
     if i == 0 { n - 1 } else { i - 1 }
 }
 
+// The number, in the list as given, of the corner that is held as corner j of n.
+pub fn given_corner(orientation: Orientation, n: usize, j: usize) -> usize
+    requires { ⌜ j < n ⌝ }
+    ensures { λ r. ⌜ r ≡ givenCorner orientation n j ⌝ }
+{
+    match orientation {
+        Orientation::Counterclockwise => j,
+        Orientation::Clockwise => if j == 0 { 0 } else { n - j },
+    }
+}
+
+// The number, in the list as given, of the edge that is held as edge j of n.
+pub fn given_edge(orientation: Orientation, n: usize, j: usize) -> usize
+    requires { ⌜ j < n ⌝ }
+    ensures { λ r. ⌜ r ≡ givenEdge orientation n j ⌝ }
+{
+    match orientation {
+        Orientation::Counterclockwise => j,
+        Orientation::Clockwise => n - 1 - j,
+    }
+}
+
+// Corner j of a list, as it is held.
+pub fn held_corner(s: &[i32], orientation: Orientation, j: usize) -> Corner
+    requires { ⌜ j < length (corners (now s)) ⌝ }
+    ensures { λ r. ⌜ r ≡ corner (asHeld orientation (corners (now (s .entry)))) j ⌝ }
+{
+    corner(s, given_corner(orientation, count(s), j))
+}
+
 // A value for an outline of n corners, all its places zero.
 pub fn unfilled(n: usize) -> Outline
     ensures { λ r. ⌜ r ≡ unfilled n ⌝ }
@@ -52,16 +85,23 @@ pub fn unfilled(n: usize) -> Outline
     }
 }
 
-// The outline with the corners of a list.
-pub fn held(s: &[i32]) -> Outline
+// The outline of a refused reading, which has no corners.
+pub fn without_corners() -> Outline
+    ensures { λ r. ⌜ r ≡ held [] ⌝ }
+{
+    unfilled(0)
+}
+
+// The outline with the corners of a list, as they are held.
+pub fn held(s: &[i32], orientation: Orientation) -> Outline
     requires { ⌜ length (corners (now s)) ≤ most ⌝ }
-    ensures { λ r. ⌜ r ≡ held (corners (now (s .entry))) ⌝ }
+    ensures { λ r. ⌜ r ≡ held (asHeld orientation (corners (now (s .entry)))) ⌝ }
 {
     let n = count(s);
     let mut outline = unfilled(n);
     let mut i = 0;
     while i < n {
-        outline.corners[i] = corner(s, i);
+        outline.corners[i] = held_corner(s, orientation, i);
         i += 1;
     }
     outline

@@ -26,7 +26,7 @@ use Rattle.outline.specs.Corners.{corner, next}
 use Rattle.outline.proofs.CornersLaws.{next-next-other}
 use Rattle.outline.specs.declared.Side.{Side}
 use Rattle.hausdorff.specs.declared.WorstSoFar.the-variants.{None}
-use Rattle.hausdorff.specs.Pair.{Pair}
+use Rattle.hausdorff.specs.Pair.{Pair, Orientations}
 use Rattle.hausdorff.specs.code.Pair.{Polygons}
 use Rattle.hausdorff.specs.code.Sweep.{worstAfter}
 use Rattle.hausdorff.specs.code.Lowest.{LowestLeftmost}
@@ -81,10 +81,12 @@ module _ {cs : List Corner} (polygon : Polygon cs) where
       corner-number i j (a .known) (b .known) (not-after-both _ _ (a .lowest j (b .known)) (b .lowest i (a .known)))
 
 -- the sweep too begins at the lowest, then leftmost corners
-pub begins-after : (pair : Pair) → Polygons pair → (state : State) → ((s : Side) → LowestLeftmost (pair s) (sideState state s .support))
-    → ((s : Side) → sideState state s .remaining ≡ length (pair s)) → ((s : Side) → sideState state s .worst ≡ None) → IsAfter pair 0 state
+pub begins-after : (pair : Pair) (os : Orientations) → Polygons pair → (state : State)
+    → ((s : Side) → LowestLeftmost (pair s) (sideState state s .support))
+    → ((s : Side) → sideState state s .remaining ≡ length (pair s)) → ((s : Side) → sideState state s .worst ≡ None)
+    → IsAfter pair os 0 state
 unfolding worstAfter
-begins-after pair polygons state lowest all none = record {
+begins-after pair os polygons state lowest all none = record {
   support = λ s. lowest-unique (polygons s) _ _ (lowest s) (begins-lowest pair polygons s);
   remaining = λ s. all s ∙ sym (begin-to-come pair polygons s);
   worst = none;

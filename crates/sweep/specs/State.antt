@@ -11,22 +11,24 @@ use Rattle.integers.specs.Equal.{eqZ}
 use Rattle.plane.specs.declared.Corner.{Corner}
 use Rattle.plane.specs.Vector.{_⇀_, cross}
 use Rattle.outline.specs.Corners.{next}
+use Rattle.outline.specs.declared.Orientation.{Orientation}
 use Rattle.outline.specs.declared.Side.{Side}
 use Rattle.outline.specs.declared.Side.the-variants.{A, B}
 use Rattle.hausdorff.specs.declared.WorstSoFar.the-variants.{None}
-use Rattle.hausdorff.specs.Pair.{Pair, stepCount}
+use Rattle.hausdorff.specs.Pair.{Pair, Orientations, bothOrientations, stepCount}
 use Rattle.hausdorff.specs.code.Pair.{AcceptedPair}
 use Rattle.hausdorff.specs.AngularOrder.{angularOrder}
 use Rattle.hausdorff.specs.code.Own.{own}
 use Rattle.hausdorff.specs.Support.{supportAfter}
+use Rattle.hausdorff.specs.Given.{givenWorst}
 use Rattle.hausdorff.specs.code.Sweep.{worstAfter}
 use Rattle.hausdorff.specs.code.Worst.{keep}
 use Rattle.sweep.specs.declared.SideState.{SideState}
 use Rattle.sweep.specs.declared.State.{State}
 use Rattle.measuring.specs.declared.Window.{Window}
 use Rattle.measuring.specs.declared.LocalFeature.{LocalFeature}
-use Rattle.measuring.specs.Window.{windowAt, IsWindow}
-use Rattle.measuring.specs.LocalFeature.{localWorst}
+use Rattle.measuring.specs.Window.{windowAt, givenNumber, IsWindow}
+use Rattle.measuring.specs.LocalFeature.{localGiven}
 use Rattle.measuring.specs.Changes.{BoundedWorst, changes}
 
 -- one side's part of a state
@@ -39,19 +41,20 @@ abbrev pub toCome : Pair → ℕ → Side → ℕ
 toCome pair k s = length (own s (drop k (angularOrder pair)))
 
 -- a state is the sweep after k steps
-pub record IsAfter (pair : Pair) (k : ℕ) (state : State) : Type 0 where
+pub record IsAfter (pair : Pair) (os : Orientations) (k : ℕ) (state : State) : Type 0 where
   pub support : (s : Side) → sideState state s .support ≡ supportAfter pair k s
   pub remaining : (s : Side) → sideState state s .remaining ≡ toCome pair k s
-  pub worst : (s : Side) → sideState state s .worst ≡ worstAfter pair k s
+  -- with corner and feature by the lists as given
+  pub worst : (s : Side) → sideState state s .worst ≡ givenWorst pair os (worstAfter pair os k s)
 
--- a state and two windows from which a step can be made: the sweep of some accepted pair after fewer than N steps, and
--- what there is at its support corners
-pub record CanStep (state : State) (a b : Window) : Type 0 where
+-- a state and two windows from which a step can be made, where the lists have the orientations o and q: the sweep of some
+-- accepted pair after fewer than N steps, and what there is at its support corners
+pub record CanStep (state : State) (a b : Window) (o q : Orientation) : Type 0 where
   pub pair : Pair
   pub steps : ℕ
   pub accepted : AcceptedPair pair
   pub more : steps < stepCount pair
-  pub is-after : IsAfter pair steps state
+  pub is-after : IsAfter pair (bothOrientations o q) steps state
   pub sees-a : a ≡ windowAt (pair A) (state .a .support)
   pub sees-b : b ≡ windowAt (pair B) (state .b .support)
 
@@ -93,23 +96,23 @@ passed a b state =
     (record { a = advanced (a .count) (state .a); b = state .b })
 
 -- measuring changes the worst so far of a side
-abbrev pub changesWorst : Window → Window → LocalFeature → LocalFeature → State → Bool
-changesWorst a b local-a local-b state =
-    changes (a .number) (a .corner) b local-a (state .a .worst)
-    || changes (b .number) (b .corner) a local-b (state .b .worst)
+abbrev pub changesWorst : Orientation → Orientation → Window → Window → LocalFeature → LocalFeature → State → Bool
+changesWorst o q a b local-a local-b state =
+    changes (givenNumber o a) (a .corner) b local-a (state .a .worst)
+    || changes (givenNumber q b) (b .corner) a local-b (state .b .worst)
 
 -- the state measured, both ways
-abbrev pub withWorst : Window → Window → LocalFeature → LocalFeature → State → State
-withWorst a b local-a local-b state = record {
+abbrev pub withWorst : Orientation → Orientation → Window → Window → LocalFeature → LocalFeature → State → State
+withWorst o q a b local-a local-b state = record {
   a = record {
     support = state .a .support;
     remaining = state .a .remaining;
-    worst = keep (λ (i : ℕ). i) (state .a .worst) (localWorst A (a .number) (a .corner) b local-a);
+    worst = keep (λ (i : ℕ). i) (state .a .worst) (localGiven A (givenNumber o a) (a .corner) q b local-a);
   };
   b = record {
     support = state .b .support;
     remaining = state .b .remaining;
-    worst = keep (λ (i : ℕ). i) (state .b .worst) (localWorst B (b .number) (b .corner) a local-b);
+    worst = keep (λ (i : ℕ). i) (state .b .worst) (localGiven B (givenNumber q b) (b .corner) o a local-b);
   };
 }
 

@@ -2,22 +2,25 @@
 use hausdorff::WorstSoFar;
 use measuring::LocalFeature;
 use measuring::Window;
+use outline::Orientation;
 use outline::Side;
 use plane::Corner;
-use reading::corners::corner;
 use reading::corners::count;
+use reading::corners::held_corner;
 use reading::corners::next;
 ghost use mathlib.Core.Path.{_≡_};
 ghost use Prim.Native.Nat.{suc, _<_};
 ghost use Rattle.outline.specs.Convex.{Accepted};
 ghost use Rattle.outline.specs.Corners.{corners};
+ghost use Rattle.outline.specs.Orientation.{asHeld};
+ghost use Rattle.hausdorff.specs.Pair.{bothOrientations};
 ghost use Rattle.hausdorff.specs.code.Lowest.{LowestLeftmost};
 ghost use Rattle.sweep.specs.State.{IsAfter, CanStep, isLower, beginning};
 ghost use Rattle.sweep.specs.State.{Measurable, BoundedState, Passable, bIsNext, advanced, passed};
 ghost use Rattle.sweep.specs.State.{changesWorst, withWorst};
 
 // One outline's part of the sweep: its support corner, how many of its edges are still to be passed,
-// and the worst so far of its corners.
+// and the worst so far of its corners, by the lists as given.
 pub struct SideState {
     pub support: usize,
     pub remaining: usize,
@@ -87,6 +90,8 @@ impl State {
     // corner and a count only, and builds no worst so far anew.
     fn changes_worst(
         self,
+        of_a: Orientation,
+        of_b: Orientation,
         a: Window,
         b: Window,
         local_a: LocalFeature,
@@ -94,23 +99,31 @@ impl State {
     ) -> bool
         requires { ⌜ Measurable a b ⌝ }
         requires { ⌜ BoundedState self ⌝ }
-        ensures { λ r. ⌜ r ≡ changesWorst a b «local_a» «local_b» self ⌝ }
+        ensures { λ r. ⌜ r ≡ changesWorst «of_a» «of_b» a b «local_a» «local_b» self ⌝ }
     {
         let side_a = self.a;
         let side_b = self.b;
         let worst_a = side_a.worst;
         let worst_b = side_b.worst;
-        if measuring::changes(a.number, a.corner, b, local_a, worst_a) {
+        if measuring::changes(of_a, a, b, local_a, worst_a) {
             return true;
         }
-        measuring::changes(b.number, b.corner, a, local_b, worst_b)
+        measuring::changes(of_b, b, a, local_b, worst_b)
     }
 
     // Measures both ways: the state with the worst so far of each side.
-    fn with_worst(self, a: Window, b: Window, local_a: LocalFeature, local_b: LocalFeature) -> State
+    fn with_worst(
+        self,
+        of_a: Orientation,
+        of_b: Orientation,
+        a: Window,
+        b: Window,
+        local_a: LocalFeature,
+        local_b: LocalFeature,
+    ) -> State
         requires { ⌜ Measurable a b ⌝ }
         requires { ⌜ BoundedState self ⌝ }
-        ensures { λ r. ⌜ r ≡ withWorst a b «local_a» «local_b» self ⌝ }
+        ensures { λ r. ⌜ r ≡ withWorst «of_a» «of_b» a b «local_a» «local_b» self ⌝ }
     {
         let side_a = self.a;
         let side_b = self.b;
@@ -120,29 +133,29 @@ impl State {
             a: SideState {
                 support: side_a.support,
                 remaining: side_a.remaining,
-                worst: measuring::keep(Side::A, a.number, a.corner, b, local_a, worst_a),
+                worst: measuring::keep(Side::A, of_a, a, of_b, b, local_a, worst_a),
             },
             b: SideState {
                 support: side_b.support,
                 remaining: side_b.remaining,
-                worst: measuring::keep(Side::B, b.number, b.corner, a, local_b, worst_b),
+                worst: measuring::keep(Side::B, of_b, b, of_a, a, local_b, worst_b),
             },
         }
     }
 
     // Rule 5.5: a step first measures and then passes the next edge. `a` and `b` are the windows at the support
-    // corners. From the sweep after k steps it gives that after k + 1, which is the definition's step (`step-after`
-    // in `proofs/StepLaws.antt`).
-    pub fn step(self, a: Window, b: Window) -> State
-        requires { ⌜ CanStep self a b ⌝ }
-        ensures { λ r. ⌜ ((can : CanStep self a b) → IsAfter (can .pair) (suc (can .steps)) r) ⌝ }
+    // corners; of equal gaps the numbers as given decide, by the orientations of the lists. From the sweep after k
+    // steps it gives that after k + 1, which is the definition's step (`step-after` in `proofs/StepLaws.antt`).
+    pub fn step(self, a: Window, b: Window, of_a: Orientation, of_b: Orientation) -> State
+        requires { ⌜ CanStep self a b «of_a» «of_b» ⌝ }
+        ensures { λ r. ⌜ ((can : CanStep self a b «of_a» «of_b») → IsAfter (can .pair) (bothOrientations «of_a» «of_b») (suc (can .steps)) r) ⌝ }
     {
         let local_a = measuring::local_feature(a.corner, b);
         let local_b = measuring::local_feature(b.corner, a);
-        if !self.changes_worst(a, b, local_a, local_b) {
+        if !self.changes_worst(of_a, of_b, a, b, local_a, local_b) {
             return self.passed(a, b);
         }
-        let measured = self.with_worst(a, b, local_a, local_b);
+        let measured = self.with_worst(of_a, of_b, a, b, local_a, local_b);
         measured.passed(a, b)
     }
 }
@@ -154,16 +167,20 @@ fn is_lower(p: Corner, q: Corner) -> bool
     if p.y == q.y { p.x < q.x } else { p.y < q.y }
 }
 
-// The number of the lowest corner, of several the leftmost: there the outline's first edge in the angular order starts.
-pub fn lowest(s: &[i32]) -> usize
-    requires { ⌜ Accepted (corners (now s)) ⌝ }
-    ensures { λ r. ⌜ LowestLeftmost (corners (now (s .entry))) r ⌝ }
+// The number, as held, of the lowest corner of a list, of several the leftmost: there the outline's first edge in the
+// angular order starts.
+pub fn lowest(s: &[i32], orientation: Orientation) -> usize
+    requires { ⌜ Accepted (asHeld orientation (corners (now s))) ⌝ }
+    ensures { λ r. ⌜ LowestLeftmost (asHeld orientation (corners (now (s .entry)))) r ⌝ }
 {
     let n = count(s);
     let mut found = 0;
     let mut i = 1;
     while i < n {
-        if is_lower(corner(s, i), corner(s, found)) {
+        if is_lower(
+            held_corner(s, orientation, i),
+            held_corner(s, orientation, found),
+        ) {
             found = i;
         }
         i += 1;

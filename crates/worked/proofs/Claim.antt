@@ -5,7 +5,10 @@ use Rattle.plane.specs.Vector.{_⇀_, cross, dot}
 use Rattle.plane.specs.code.Tests.{same}
 use Rattle.lists.specs.Fold.{fold}
 use Rattle.outline.specs.Corners.{corners, next}
+use Rattle.outline.specs.Orientation.{givenCorner}
 use Rattle.outline.specs.code.Reading.{checkRange, checkRepeated, checkEdge, checkConvex, check}
+use Rattle.outline.specs.code.Turns.{isConvex}
+use Rattle.outline.specs.code.Either.{orientationOf, checkEitherConvex, checkEither}
 use Rattle.nearest.specs.code.Local.{feature}
 use Rattle.nearest.specs.Search.{tried, least}
 use Rattle.nearest.specs.code.Call.{checkNearest}
@@ -21,14 +24,16 @@ use Rattle.hausdorff.specs.Support.{firstStart, passAll}
 use Rattle.hausdorff.specs.code.Sweep.{measured, worstAfter}
 use Rattle.hausdorff.specs.code.Report.{report}
 use Rattle.hausdorff.specs.code.Call.{checkPair}
-use Rattle.worked.specs.Cases.{All, cases, S, T, star, straight, clockwise, twice, wedge, moved, turned, low}
-use Rattle.worked.specs.Cases.{high, S3, T3, upward, downward, square, squareMoved, flat, tall, thin, wide}
+use Rattle.worked.specs.Cases.{All, cases, S, T, star, straight, clockwise, straightBack, twice, wedge, moved}
+use Rattle.worked.specs.Cases.{turned, low, high, S3, T3, upward, downward, square, squareBack, squareMoved, flat}
+use Rattle.worked.specs.Cases.{tall, kite, kiteBack, thin, wide}
 
 pub claim : All cases
 unfolding inRange _⇀_ cross dot same fold corners next checkRange checkRepeated checkEdge checkConvex check checkPair
     without checkRemoval feature tried least checkNearest isFirstHalf isBefore sameDirection _⇢_
     rootBy precedes insert sort angularOrder liesAt isCounted firstStart passAll measured worstAfter report
-    S T star straight clockwise twice wedge moved turned low high S3 T3 upward downward
-    square squareMoved flat tall thin wide
+    orientationOf givenCorner checkEitherConvex checkEither isConvex
+    S T star straight clockwise straightBack twice wedge moved turned low high S3 T3 upward downward
+    square squareBack squareMoved flat tall kite kiteBack thin wide
 claim =
-    (refl, (refl, (refl, (refl, (refl, (refl, ((refl, refl), ((refl, refl), ((refl, refl), ((refl, refl), (refl, (refl, (refl, (refl, (refl, (refl, (refl, (refl, (refl, (refl, (refl, (refl, (refl, (refl, (refl, (refl, (refl, (refl, (refl, (refl, (refl, (refl, (refl, (refl, (refl, (refl, (refl, (refl, (refl, (refl, (refl, (refl, (refl, (refl, (refl, ((refl, refl, refl), ((refl, refl, refl), ((refl, refl, refl), ((refl, refl, refl), ((refl, refl, refl), tt))))))))))))))))))))))))))))))))))))))))))))))))))
+    (refl, (refl, (refl, (refl, (refl, (refl, (refl, (refl, (refl, (refl, (refl, (refl, ((refl, refl), ((refl, refl), ((refl, refl), ((refl, refl), ((refl, refl), (refl, (refl, (refl, (refl, (refl, (refl, (refl, (refl, (refl, (refl, (refl, (refl, (refl, (refl, (refl, (refl, (refl, (refl, (refl, (refl, (refl, (refl, (refl, (refl, (refl, (refl, (refl, (refl, (refl, (refl, (refl, (refl, (refl, (refl, (refl, (refl, (refl, (refl, (refl, (refl, (refl, (refl, (refl, (refl, (refl, (refl, (refl, (refl, (refl, (refl, (refl, (refl, (refl, (refl, (refl, (refl, ((refl, refl, refl), ((refl, refl, refl), ((refl, refl, refl), ((refl, refl, refl), ((refl, refl, refl), ((refl, refl, refl), ((refl, refl, refl), tt))))))))))))))))))))))))))))))))))))))))))))))))))))))))))))))))))))))))))))))))

@@ -3,20 +3,25 @@ use Prim.Native.Nat.{ℕ}
 use mathlib.Core.Path.{_≡_}
 use mathlib.Core.List.{List, [], _∷_}
 use lib.IntN.{ℤ, pos, negsuc}
+use lib.ListN.{length}
 use Rattle.plane.specs.declared.Corner.{Corner}
+use Rattle.outline.specs.declared.Orientation.{Orientation}
+use Rattle.outline.specs.declared.Orientation.the-variants.{Counterclockwise, Clockwise}
 use Rattle.outline.specs.declared.Refusal.{Refusal}
 use Rattle.outline.specs.declared.Verdict.{Verdict}
 use Rattle.outline.specs.declared.Verdict.the-variants.{Taken, Refused}
 use Rattle.outline.specs.declared.Place.the-variants.{Nowhere, EdgeAndCorner}
 use Rattle.outline.specs.declared.RefusedSide.{RefusedSide}
 use Rattle.outline.specs.declared.RefusedSide.the-variants.{NoSide, Of}
+use Rattle.outline.specs.code.Either.{orientationOf, heldCorners, eitherReading}
 use Rattle.outline.specs.code.Reading.{reading}
-use Rattle.outline.specs.Corners.{corners}
+use Rattle.outline.specs.Corners.{corners, held}
 use Rattle.nearest.specs.declared.NearestAnswer.{NearestAnswer}
 use Rattle.nearest.specs.declared.NearestAnswer.the-variants as NearestAnswer
 use Rattle.nearest.specs.declared.Feature.{Feature}
 use Rattle.nearest.specs.declared.Feature.the-variants as Feature
 use Rattle.nearest.specs.declared.NearestPoint.{NearestPoint}
+use Rattle.nearest.specs.Given.{givenNearest}
 use Rattle.nearest.specs.code.Call.{nearestAnswer}
 use Rattle.nearest.specs.Search.{search}
 use Rattle.edit.specs.code.Removal.{removalVerdict, listAfter}
@@ -28,42 +33,49 @@ use Rattle.hausdorff.specs.declared.WorstSoFar.the-variants.{None, Worst}
 use Rattle.hausdorff.specs.declared.Comparison.{Comparison}
 use Rattle.hausdorff.specs.declared.Comparison.the-variants as Comparison
 use Rattle.hausdorff.specs.declared.Report.the-variants as Report
-use Rattle.hausdorff.specs.Pair.{Pair, both}
 use Rattle.hausdorff.specs.AngularOrder.{PairEdge, angularOrder}
 use Rattle.hausdorff.specs.Exhaustive.{exhaustiveOf, exhaustive}
-use Rattle.hausdorff.specs.code.Call.{comparison}
+use Rattle.hausdorff.specs.Given.{givenGap}
+use Rattle.hausdorff.specs.code.Call.{orientations, pairOf, comparison}
 
 -- a call, what it is handed, and what it answers
 pub data Case : Type 0 where
-  -- reading the list ends so
-  reads : List ℤ → Verdict → Case
+  -- the strict reading of the list ends so
+  readsStrictly : List ℤ → Verdict → Case
+  -- the default reading ends so, with the corners of another list held, and with this orientation
+  reads : List ℤ → Verdict → List ℤ → Orientation → Case
   -- removing a corner of the list, with a list to write, ends so and leaves that list so
   removes : List ℤ → ℕ → List ℤ → Verdict → List ℤ → Case
   -- the nearest point of the list's outline to a point is answered so
   nears : Corner → List ℤ → NearestAnswer → Case
-  -- the exhaustive search for a point finds this
+  -- the exhaustive search for a point finds this, by the list as given
   searches : Corner → List ℤ → NearestPoint → Case
-  -- the angular order of the edges of two lists' outlines is this
+  -- the angular order of the edges of two lists' outlines, as held, is this
   orders : List ℤ → List ℤ → List PairEdge → Case
   -- comparing the lists with a step allowance ends so
   compares : List ℤ → List ℤ → ℕ → Comparison → Case
-  -- the exhaustive search finds these for A and for B, and this for both
+  -- the exhaustive search finds these for A and for B, and this for both, by the lists as given
   exhausts : List ℤ → List ℤ → CornerGap → CornerGap → CornerGap → Case
 
--- the outlines of two lists
-abbrev pair : List ℤ → List ℤ → Pair
-pair s t = both (corners s) (corners t)
+-- a corner of two lists' outlines, by the lists as given
+abbrev named : List ℤ → List ℤ → CornerGap → CornerGap
+named s t w = givenGap (pairOf s t) (orientations s t) w
 
 -- what a case claims: the definitions say so
 abbrev pub Holds : Case → Type 0
-Holds (reads s ends) = reading NoSide s .verdict ≡ ends
+Holds (readsStrictly s ends) = reading NoSide s .verdict ≡ ends
+Holds (reads s ends as-held o) =
+    eitherReading NoSide s ≡ record { verdict = ends; outline = held (corners as-held); orientation = o }
 Holds (removes s k out ends after) = (removalVerdict s k out ≡ ends) × (listAfter s k out ≡ after)
 Holds (nears v s ends) = nearestAnswer v s ≡ ends
-Holds (searches v s found) = search (corners s) v ≡ found
-Holds (orders s t order) = angularOrder (pair s t) ≡ order
+Holds (searches v s found) =
+    givenNearest (orientationOf (corners s)) (length (corners s)) (search (heldCorners s) v) ≡ found
+Holds (orders s t order) = angularOrder (pairOf s t) ≡ order
 Holds (compares s t allowance ends) = comparison s t allowance ≡ ends
 Holds (exhausts s t in-a in-b found) =
-    (exhaustiveOf (pair s t) A ≡ in-a) × (exhaustiveOf (pair s t) B ≡ in-b) × (exhaustive (pair s t) ≡ found)
+    (named s t (exhaustiveOf (pairOf s t) (orientations s t) A) ≡ in-a)
+    × (named s t (exhaustiveOf (pairOf s t) (orientations s t) B) ≡ in-b)
+    × (named s t (exhaustive (pairOf s t) (orientations s t)) ≡ found)
 
 -- each case of a list holds
 abbrev pub All : List Case → Type 0
@@ -89,6 +101,10 @@ straight = pos 0 ∷ pos 0 ∷ pos 2 ∷ pos 0 ∷ pos 4 ∷ pos 0 ∷ pos 0 ∷
 -- T, walked clockwise
 unfoldable pub clockwise : List ℤ
 clockwise = pos 0 ∷ pos 0 ∷ pos 0 ∷ pos 4 ∷ pos 4 ∷ pos 0 ∷ []
+
+-- `straight`, walked clockwise
+unfoldable pub straightBack : List ℤ
+straightBack = pos 0 ∷ pos 0 ∷ pos 0 ∷ pos 3 ∷ pos 4 ∷ pos 0 ∷ pos 2 ∷ pos 0 ∷ []
 
 -- T, walked twice
 unfoldable pub twice : List ℤ
@@ -116,6 +132,22 @@ cornerOne gap = record {
   feature = Feature.Corner 1;
   gap = record { upper = gap; lower = 1 };
   point = record { x = pos 9; y = pos 0; lower = 1 };
+}
+
+-- at a leg of T, on the edge with this number: the nearest point to (2,-3) or to (-3,2)
+abbrev onLeg : ℕ → ℤ → ℤ → NearestPoint
+onLeg i x y = record {
+  feature = Feature.Edge i;
+  gap = record { upper = 144; lower = 16 };
+  point = record { x = x; y = y; lower = 16 };
+}
+
+-- at an end of T's hypotenuse, the corner with this number: the nearest point to (5,-1)
+abbrev atEnd : ℕ → NearestPoint
+atEnd i = record {
+  feature = Feature.Corner i;
+  gap = record { upper = 2; lower = 1 };
+  point = record { x = pos 4; y = pos 0; lower = 1 };
 }
 
 -- within: the point itself
@@ -182,6 +214,10 @@ downward = pos 0 ∷ pos 0 ∷ pos 2 ∷ negsuc 2 ∷ pos 4 ∷ pos 0 ∷ []
 unfoldable pub square : List ℤ
 square = pos 1 ∷ negsuc 0 ∷ pos 1 ∷ pos 1 ∷ negsuc 0 ∷ pos 1 ∷ negsuc 0 ∷ negsuc 0 ∷ []
 
+-- that square, walked clockwise
+unfoldable pub squareBack : List ℤ
+squareBack = pos 1 ∷ negsuc 0 ∷ negsuc 0 ∷ negsuc 0 ∷ negsuc 0 ∷ pos 1 ∷ pos 1 ∷ pos 1 ∷ []
+
 -- that square, moved by (10,0)
 unfoldable pub squareMoved : List ℤ
 squareMoved = pos 11 ∷ negsuc 0 ∷ pos 11 ∷ pos 1 ∷ pos 9 ∷ pos 1 ∷ pos 9 ∷ negsuc 0 ∷ []
@@ -193,6 +229,14 @@ flat = pos 0 ∷ pos 0 ∷ pos 6 ∷ pos 3 ∷ pos 0 ∷ pos 3 ∷ []
 -- the other triangle of that pair
 unfoldable pub tall : List ℤ
 tall = pos 6 ∷ pos 0 ∷ pos 3 ∷ pos 6 ∷ pos 3 ∷ pos 0 ∷ []
+
+-- a quadrilateral with two corners whose gaps to T are equal as values: (4,0) (4,4) (0,4) (-2,-2)
+unfoldable pub kite : List ℤ
+kite = pos 4 ∷ pos 0 ∷ pos 4 ∷ pos 4 ∷ pos 0 ∷ pos 4 ∷ negsuc 1 ∷ negsuc 1 ∷ []
+
+-- its corners in the opposite order
+unfoldable pub kiteBack : List ℤ
+kiteBack = negsuc 1 ∷ negsuc 1 ∷ pos 0 ∷ pos 4 ∷ pos 4 ∷ pos 4 ∷ pos 4 ∷ pos 0 ∷ []
 
 -- a triangle with a corner whose nearest point in `wide` is a neighbour of the support corner
 unfoldable pub thin : List ℤ
@@ -260,9 +304,29 @@ squareA2 = corner A 2 (Feature.Corner 2) 100 (pos 9) (pos 1) 1
 abbrev squareA3 : CornerGap
 squareA3 = corner A 3 (Feature.Corner 3) 100 (pos 9) (negsuc 0) 1
 
+-- corner 1 of `squareBack`, which is corner 3 of `square`
+abbrev squareBackA1 : CornerGap
+squareBackA1 = corner A 1 (Feature.Corner 3) 100 (pos 9) (negsuc 0) 1
+
 -- corner 0 of the moved one against `square`
 abbrev squareB0 : CornerGap
 squareB0 = corner B 0 (Feature.Corner 0) 100 (pos 1) (negsuc 0) 1
+
+-- corner 1 of `kite` against T
+abbrev kiteA1 : CornerGap
+kiteA1 = corner A 1 (Feature.Edge 1) 256 (pos 64) (pos 64) 32
+
+-- corner 0 of `kiteBack`, which is corner 3 of `kite`
+abbrev kiteBackA0 : CornerGap
+kiteBackA0 = corner A 0 (Feature.Corner 0) 8 (pos 0) (pos 0) 1
+
+-- corner 1 of `downward` against T walked clockwise: its last edge
+abbrev downwardA1 : CornerGap
+downwardA1 = corner A 1 (Feature.Edge 2) 144 (pos 32) (pos 0) 16
+
+-- corner 1 of that against `downward`
+abbrev clockwiseB1 : CornerGap
+clockwiseB1 = corner B 1 (Feature.Corner 0) 16 (pos 0) (pos 0) 1
 
 -- corner 0 of `flat` against `tall`
 abbrev flatA0 : CornerGap
@@ -301,16 +365,25 @@ done steps answer clearance of-a of-b = Comparison.Reported (Report.Done (record
 -- the examples
 abbrev pub cases : List Case
 cases =
-    reads S Taken
-    ∷ reads T Taken
-    ∷ reads star (Refused (notLeft NoSide 0 3))
-    ∷ reads straight (Refused (notLeft NoSide 0 2))
-    ∷ reads clockwise (Refused (notLeft NoSide 0 2))
-    ∷ reads twice (Refused (notLeft NoSide 0 3))
+    readsStrictly S Taken
+    ∷ readsStrictly T Taken
+    ∷ readsStrictly star (Refused (notLeft NoSide 0 3))
+    ∷ readsStrictly straight (Refused (notLeft NoSide 0 2))
+    ∷ readsStrictly clockwise (Refused (notLeft NoSide 0 2))
+    ∷ readsStrictly twice (Refused (notLeft NoSide 0 3))
+    ∷ reads S Taken S Counterclockwise
+    ∷ reads clockwise Taken T Clockwise
+    ∷ reads squareBack Taken square Clockwise
+    -- neither orientation: the place is that of the strict reading
+    ∷ reads star (Refused (notLeft NoSide 0 3)) [] Counterclockwise
+    ∷ reads straight (Refused (notLeft NoSide 0 2)) [] Counterclockwise
+    ∷ reads straightBack (Refused (notLeft NoSide 0 2)) [] Counterclockwise
     ∷ removes S 1 six Taken (pos 0 ∷ pos 0 ∷ pos 4 ∷ pos 4 ∷ pos 0 ∷ pos 4 ∷ [])
     ∷ removes T 0 four (Refused tooFew) four
     ∷ removes T 1 four (Refused tooFew) four
     ∷ removes T 2 four (Refused tooFew) four
+    -- the list is read strictly
+    ∷ removes clockwise 0 four (Refused (notLeft NoSide 0 2)) four
     ∷ nears (point (pos 6) (pos 6)) wedge (NearestAnswer.Found edgeOne)
     ∷ nears (point (pos 12) (pos 9)) wedge (NearestAnswer.Found (cornerOne 90))
     -- the foot on edge 0 is its end; on the border; at a corner
@@ -318,11 +391,21 @@ cases =
     ∷ nears (point (pos 6) (pos 1)) wedge (NearestAnswer.Found (within (pos 6) (pos 1)))
     ∷ nears (point (pos 9) (pos 0)) wedge (NearestAnswer.Found (within (pos 9) (pos 0)))
     ∷ nears (point (pos 0) (negsuc 16000)) wedge (NearestAnswer.Refused pointOut)
-    ∷ nears (point (pos 0) (negsuc 16000)) clockwise (NearestAnswer.Refused (notLeft NoSide 0 2))
+    ∷ nears (point (pos 0) (negsuc 16000)) straight (NearestAnswer.Refused (notLeft NoSide 0 2))
+    ∷ nears (point (pos 0) (negsuc 16000)) clockwise (NearestAnswer.Refused pointOut)
+    -- the legs of T are the edges 0 and 2; clockwise the edges 2, its last, and 0. Its corner 1 is corner 2
+    ∷ nears (point (pos 2) (negsuc 2)) T (NearestAnswer.Found (onLeg 0 (pos 32) (pos 0)))
+    ∷ nears (point (pos 2) (negsuc 2)) clockwise (NearestAnswer.Found (onLeg 2 (pos 32) (pos 0)))
+    ∷ nears (point (negsuc 2) (pos 2)) clockwise (NearestAnswer.Found (onLeg 0 (pos 0) (pos 32)))
+    ∷ nears (point (pos 5) (negsuc 0)) T (NearestAnswer.Found (atEnd 1))
+    ∷ nears (point (pos 5) (negsuc 0)) clockwise (NearestAnswer.Found (atEnd 2))
+    ∷ nears (point (pos 1) (pos 1)) clockwise (NearestAnswer.Found (within (pos 1) (pos 1)))
     ∷ searches (point (pos 6) (pos 6)) wedge edgeOne
     ∷ searches (point (pos 12) (pos 9)) wedge (cornerOne 90)
     ∷ searches (point (pos 6) (pos 1)) wedge (within (pos 6) (pos 1))
+    ∷ searches (point (pos 2) (negsuc 2)) clockwise (onLeg 2 (pos 32) (pos 0))
     ∷ orders S T (a 0 ∷ b 0 ∷ a 1 ∷ b 1 ∷ a 2 ∷ a 3 ∷ b 2 ∷ [])
+    ∷ orders S clockwise (a 0 ∷ b 0 ∷ a 1 ∷ b 1 ∷ a 2 ∷ a 3 ∷ b 2 ∷ [])
     ∷ compares S T 512 (done 7 (fromS A) 3 (fromS A) (zeroth B (pos 0) (pos 0)))
     -- no side shows a corner; then A alone; then B alone, with the outlines exchanged; then both
     ∷ compares S T 0 (spent 0 0 0 None None None)
@@ -331,6 +414,14 @@ cases =
     ∷ compares S T 6 (spent 6 0 2 (Worst (fromS A)) (Worst (fromS A)) None)
     ∷ compares T S 4 (spent 4 2 2 (Worst (fromS B)) None (Worst (fromS B)))
     ∷ compares T S 7 (done 7 (fromS B) 3 (zeroth A (pos 0) (pos 0)) (fromS B))
+    -- T walked clockwise, both ways round: support corners have their numbers as given
+    ∷ compares S clockwise 3 (spent 3 2 2 None None None)
+    ∷ compares S clockwise 4 (spent 4 2 1 (Worst (fromS A)) (Worst (fromS A)) None)
+    ∷ compares S clockwise 512 (done 7 (fromS A) 3 (fromS A) (zeroth B (pos 0) (pos 0)))
+    ∷ compares clockwise S 4 (spent 4 1 2 (Worst (fromS B)) None (Worst (fromS B)))
+    ∷ compares clockwise S 7 (done 7 (fromS B) 3 (zeroth A (pos 0) (pos 0)) (fromS B))
+    ∷ compares downward clockwise 2 (spent 2 2 2 (Worst downwardA1) (Worst downwardA1) None)
+    ∷ compares downward clockwise 6 (done 6 clockwiseB1 4 downwardA1 clockwiseB1)
     ∷ compares S moved 1 (spent 1 1 0 (Worst movedA0) (Worst movedA0) (Worst movedB0))
     -- of equal gaps of A and B, A's
     ∷ compares S moved 3 (spent 3 2 1 (Worst movedA0) (Worst movedA0) (Worst movedB1))
@@ -345,6 +436,13 @@ cases =
     -- of equal gaps of a side corner 2 takes the place of corner 3, which was found before
     ∷ compares square squareMoved 5 (spent 5 2 1 (Worst squareA3) (Worst squareA3) (Worst squareB0))
     ∷ compares square squareMoved 6 (spent 6 2 2 (Worst squareA2) (Worst squareA2) (Worst squareB0))
+    -- clockwise that corner has the number 1 and is found before corner 2, which does not take its place
+    ∷ compares squareBack squareMoved 5 (spent 5 2 1 (Worst squareBackA1) (Worst squareBackA1) (Worst squareB0))
+    ∷ compares squareBack squareMoved 6 (spent 6 2 2 (Worst squareBackA1) (Worst squareBackA1) (Worst squareB0))
+    ∷ compares squareBack squareMoved 8 (done 8 squareBackA1 10 squareBackA1 squareB0)
+    -- a list and its reversal: the same gap as a value, at another corner
+    ∷ compares kite T 7 (done 7 kiteA1 3 kiteA1 (zeroth B (pos 0) (pos 0)))
+    ∷ compares kiteBack T 7 (done 7 kiteBackA0 3 kiteBackA0 (zeroth B (pos 0) (pos 0)))
     -- the nearest point is a neighbour of the support corner
     ∷ compares thin wide 2 (spent 2 0 0 (Worst thinA0) (Worst thinA0) None)
     -- the greater gap is B's
@@ -353,11 +451,13 @@ cases =
     ∷ compares flat tall 6 (done 6 flatA0 3 flatA0 tallB1)
     -- refused: A's list, B's, and both, where A's refusal stands
     ∷ compares star T 0 (Comparison.Refused (notLeft (Of A) 0 3))
-    ∷ compares S clockwise 0 (Comparison.Refused (notLeft (Of B) 0 2))
+    ∷ compares S straightBack 0 (Comparison.Refused (notLeft (Of B) 0 2))
     ∷ compares straight star 512 (Comparison.Refused (notLeft (Of A) 0 2))
     ∷ exhausts S T (fromS A) (zeroth B (pos 0) (pos 0)) (fromS A)
     ∷ exhausts S moved movedA0 movedB1 movedA0
     ∷ exhausts low high (far A (pos 31999)) (far B (negsuc 31998)) (far A (pos 31999))
     ∷ exhausts square squareMoved squareA2 squareB0 squareA2
     ∷ exhausts thin wide thinA0 wideB1 wideB1
+    ∷ exhausts squareBack squareMoved squareBackA1 squareB0 squareBackA1
+    ∷ exhausts downward clockwise downwardA1 clockwiseB1 clockwiseB1
     ∷ []

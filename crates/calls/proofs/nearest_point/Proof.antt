@@ -1,32 +1,52 @@
--- `calls::nearest_point` goes by what reading gives and then by the point's range.
+-- `calls::nearest_point` goes by what the checks of the list give and then by the point's range.
 use borrow.Author.Needs.{needs}
-use mathlib.Core.Path.{ap, _∙_}
-use Rattle.nearest.specs.declared.NearestAnswer.the-variants.{Found}
-use Rattle.nearest.proofs.CallLaws.{call-unread, call-out-of-range, call-asks, call-found, call-promises}
+use mathlib.Core.Path.{refl}
+use Rattle.outline.proofs.EitherLaws.{checked-accepted}
+use Rattle.nearest.proofs.CallLaws.{call-refused, call-out-of-range, call-asks, call-below, call-found, call-promises}
 use Rattle.calls.proofs.nearest_point.Statement.{statement}
 use Rattle.calls.proofs.nearest_point.Tie as tie
 
 returns : tie.Need-returns
 returns c =
     call-promises _ _
-    (call-unread _ _ (c .before .before .before .read-outline .ensures .0) (c .before .verdict .given .1))
+    (call-refused _ _ (c .before .before .before .check-either .ensures) (c .before .refusal .given .1))
 
 returns-2 : tie.Need-returns-2
 returns-2 c =
-    call-promises _ _ (call-out-of-range _ _ (c .before .before .before .before .read-outline .ensures .0)
-    (c .before .before .enum-told .given .1) (rw (c .before .in-range .ensures) at (c .if1 .taken)))
+    let ranged = c .before in let told = ranged .before in
+    call-promises _ _ (call-out-of-range _ _ (told .before .before .check-either .ensures) (told .enum-told .given .1)
+    (rw (ranged .in-range .ensures) at (c .if1 .taken)))
+
+orientation-requires : tie.Need-orientation-requires
+orientation-requires c κs =
+    let told = c .before .before in
+    let ok = checked-accepted _ _ (told .before .before .check-either .ensures) (told .enum-told .given .1) refl in
+    (ok .at-least, ok .in-range)
+
+held-requires : tie.Need-held-requires
+held-requires c κs =
+    let told = c .before .before .before in
+    checked-accepted _ _ (told .before .before .check-either .ensures) (told .enum-told .given .1) refl .at-most
 
 nearest-requires : tie.Need-nearest-requires
 nearest-requires c κs =
-    call-asks _ _ (c .before .before .before .before .read-outline .ensures .0) (c .before .before .enum-told .given .1)
-    (rw (c .before .in-range .ensures) at (c .if1 .left))
+    let found = c .before in let tested = found .before in let ranged = tested .before in let told = ranged .before in
+    call-asks _ _ (told .before .before .check-either .ensures) (told .enum-told .given .1) (found .orientation .ensures)
+    (c .held .ensures) (rw (ranged .in-range .ensures) at (tested .if1 .left))
+
+given-nearest-requires : tie.Need-given-nearest-requires
+given-nearest-requires c κs =
+    let holds = c .before .before in let found = holds .before in let told = found .before .before .before in
+    call-below _ _ (told .before .before .check-either .ensures) (told .enum-told .given .1)
+    (found .orientation .ensures) (holds .held .ensures) (c .before .nearest .ensures) (c .count .ensures)
 
 returns-3 : tie.Need-returns-3
 returns-3 c =
-    call-promises _ _ (ap Found (c .nearest .ensures)
-    ∙ call-found _ _ (c .before .before .before .before .before .read-outline .ensures .0)
-    (c .before .before .before .enum-told .given .1)
-    (rw (c .before .before .in-range .ensures) at (c .before .if1 .left)))
+    let counted = c .before in let holds = counted .before .before in let found = holds .before in
+    let tested = found .before in let ranged = tested .before in let told = ranged .before in
+    call-promises _ _ (call-found _ _ (told .before .before .check-either .ensures) (told .enum-told .given .1)
+    (found .orientation .ensures) (holds .held .ensures) (rw (ranged .in-range .ensures) at (tested .if1 .left))
+    (counted .before .nearest .ensures) (counted .count .ensures) (c .given-nearest .ensures))
 
 pub nearest-point-spec : {M : Type 1} → statement M
 nearest-point-spec =
@@ -36,5 +56,9 @@ nearest-point-spec =
     returns
     (search needs) (search needs)
     returns-2
+    orientation-requires
+    held-requires
     nearest-requires
+    (search needs)
+    given-nearest-requires
     returns-3)

@@ -3,45 +3,43 @@ use borrow.Author.Needs.{needs}
 use borrow.Author.Tests.{ltb-true}
 use mathlib.Core.Logic.{⊎-elim}
 use native.Mathlib.Omega.{arith}
-use Rattle.hausdorff.proofs.CallLaws.{both-accepted}
-use Rattle.sweep.proofs.StepLaws.{after-bounded}
-use Rattle.comparing.proofs.CompareLaws.{counts-fit, compare-reports}
+use Rattle.comparing.proofs.CompareLaws.{counts-fit, counts-total, listed-reportable, compare-reports}
 use Rattle.comparing.proofs.compare.Statement.{statement}
 use Rattle.comparing.proofs.compare.Tie as tie
 
 add-total : tie.Need-add-total
 add-total c =
     let pre = c .before .before .pre in
-    omega (arith, counts-fit (c .before .count .ensures) (c .count2 .ensures) (pre .0) (pre .1))
+    omega (arith, counts-fit (pre .0) (pre .1) (c .before .count .ensures) (c .count2 .ensures))
 
 cast-total : tie.Need-cast-total
 cast-total c =
     let pre = c .before .before .pre in
-    omega (arith, counts-fit (c .before .count .ensures) (c .count2 .ensures) (pre .0) (pre .1))
+    omega (arith, counts-fit (pre .0) (pre .1) (c .before .count .ensures) (c .count2 .ensures))
 
 make-steps-requires : tie.Need-make-steps-requires
 make-steps-requires c κs =
     let counted = c .before in let pre = counted .before .before .pre in
-    let n = counted .before .count .ensures in let m = counted .count2 .ensures in
-    (pre .0, (pre .1, ⊎-elim (λ w. omega (arith, ltb-true, n, m)) (λ w. omega (arith, n, m)) (c .if1 .came)))
+    let total = counts-total (pre .0) (pre .1) (counted .before .count .ensures) (counted .count2 .ensures) in
+    (pre .0, (pre .1, ⊎-elim (λ w. omega (arith, ltb-true, total)) (λ w. omega (arith, total)) (c .if1 .came)))
 
-corner-requires : tie.Need-corner-requires
-corner-requires c κs = omega (arith, c .before .before .before .before .pre .0 .at-least)
+listed-requires : tie.Need-listed-requires
+listed-requires c κs = omega (arith, c .before .before .before .before .pre .0 .at-least)
 
-corner-requires-2 : tie.Need-corner-requires-2
-corner-requires-2 c κs = omega (arith, c .before .before .before .before .before .pre .1 .at-least)
+listed-requires-2 : tie.Need-listed-requires-2
+listed-requires-2 c κs = omega (arith, c .before .before .before .before .before .pre .1 .at-least)
 
 report-of-requires : tie.Need-report-of-requires
 report-of-requires c κs =
     let run = c .before .before in let pre = run .before .before .before .before .pre in
-    after-bounded _ (both-accepted _ _ (pre .0) (pre .1)) _ (run .make-steps .ensures)
+    listed-reportable (pre .0) (pre .1) (run .make-steps .ensures) (c .before .listed .ensures) (c .listed2 .ensures)
 
 returns : tie.Need-returns
 returns c =
-    let run = c .before .before .before in let counted = run .before .before in
-    compare-reports (counted .before .count .ensures) (counted .count2 .ensures) _
+    let run = c .before .before .before in let counted = run .before .before in let pre = counted .before .before .pre in
+    compare-reports (pre .0) (pre .1) (counted .before .count .ensures) (counted .count2 .ensures) _
     (⊎-elim (λ w. rw (w .0 .taken) (w .1)) (λ w. rw (w .0 .left) (w .1)) (run .before .if1 .came))
-    (run .make-steps .ensures) (c .before .before .corner .ensures) (c .before .corner2 .ensures)
+    (run .make-steps .ensures) (c .before .before .listed .ensures) (c .before .listed2 .ensures)
     (c .report-of .ensures)
 
 pub compare-spec : {M : Type 1} → statement M
@@ -52,7 +50,7 @@ compare-spec =
     add-total
     cast-total
     make-steps-requires
-    corner-requires
-    corner-requires-2
+    listed-requires
+    listed-requires-2
     report-of-requires
     returns)

@@ -13,7 +13,7 @@ use Rattle.hausdorff.specs.declared.Spent.{Spent}
 use Rattle.hausdorff.specs.declared.Done.{Done}
 use Rattle.hausdorff.specs.declared.Report.{Report}
 use Rattle.hausdorff.specs.declared.Report.the-variants as Report
-use Rattle.hausdorff.specs.Pair.{Pair, stepCount}
+use Rattle.hausdorff.specs.Pair.{Pair, Orientations, stepCount}
 use Rattle.hausdorff.specs.CornerGap.{worse}
 use Rattle.hausdorff.specs.Law.{orWithin}
 use Rattle.hausdorff.specs.code.Sweep.{worstAfter, worstSoFar}
@@ -24,32 +24,32 @@ abbrev pub clearance : Fraction → ℕ
 clearance g = ceilingRoot g
 
 -- the answer of a side: its worst so far after step N, or its corner 0, within, if that is none
-abbrev pub sideAnswer : Pair → Side → CornerGap
-sideAnswer pair s = orWithin s (corner (pair s) 0) (worstAfter pair (stepCount pair) s)
+abbrev pub sideAnswer : Pair → Orientations → Side → CornerGap
+sideAnswer pair os s = orWithin s (corner (pair s) 0) (worstAfter pair os (stepCount pair) s)
 
 -- the worse of A's and B's
-abbrev pub answer : Pair → CornerGap
-answer pair = worse (sideAnswer pair A) (sideAnswer pair B)
+abbrev pub answer : Pair → Orientations → CornerGap
+answer pair os = worse (sideAnswer pair os A) (sideAnswer pair os B)
 
 -- the steps made (equal to the allowance), both support corners, and the worst so far or none, overall and of each side
-abbrev pub spent : Pair → ℕ → Spent
-spent pair allowance = record {
+abbrev pub spent : Pair → Orientations → ℕ → Spent
+spent pair os allowance = record {
   steps = allowance;
   support = record { a = supportAfter pair allowance A; b = supportAfter pair allowance B };
-  worst = worstSoFar pair allowance;
-  sides = record { a = worstAfter pair allowance A; b = worstAfter pair allowance B };
+  worst = worstSoFar pair os allowance;
+  sides = record { a = worstAfter pair os allowance A; b = worstAfter pair os allowance B };
 }
 
 -- the steps made (equal to N), the answer, its clearance and the answer of each side
-abbrev pub done : Pair → Done
-done pair = record {
+abbrev pub done : Pair → Orientations → Done
+done pair os = record {
   steps = stepCount pair;
-  answer = answer pair;
-  clearance = clearance (answer pair .gap);
-  sides = record { a = sideAnswer pair A; b = sideAnswer pair B };
+  answer = answer pair os;
+  clearance = clearance (answer pair os .gap);
+  sides = record { a = sideAnswer pair os A; b = sideAnswer pair os B };
 }
 
 -- spent if the allowance is below N, otherwise done
-unfoldable pub report : Pair → ℕ → Report
-report pair allowance =
-    cond (ltb allowance (stepCount pair)) (Report.Spent (spent pair allowance)) (Report.Done (done pair))
+unfoldable pub report : Pair → Orientations → ℕ → Report
+report pair os allowance =
+    cond (ltb allowance (stepCount pair)) (Report.Spent (spent pair os allowance)) (Report.Done (done pair os))

@@ -3,18 +3,12 @@ use Prim.Native.Nat.{ℕ}
 use mathlib.Core.Bool.{Bool, cond, not, _&&_, _||_}
 use lib.Dec.{ltb}
 use Rattle.integers.specs.Fraction.{isLess}
-use Rattle.outline.specs.declared.Side.{Side}
 use Rattle.hausdorff.specs.declared.CornerGap.{CornerGap}
 use Rattle.hausdorff.specs.declared.WorstSoFar.{WorstSoFar}
 use Rattle.hausdorff.specs.declared.WorstSoFar.the-variants.{None, Worst}
-use Rattle.hausdorff.specs.Pair.{Pair}
 
--- the number that a corner is listed under, by which the rule tells equals apart: its own
-abbrev pub shownNumber : Pair → Side → ℕ → ℕ
-shownNumber pair s i = i
-
--- a corner takes the place of another of its side: its gap is greater, or equal and its shown number lower. The
--- rule goes by the corner alone, not by when it was found
+-- a corner takes the place of another of its side: its gap is greater, or equal and its number as given, `shown`,
+-- lower. The rule goes by the corner alone, not by when it was found
 abbrev pub takesPlace : (ℕ → ℕ) → CornerGap → CornerGap → Bool
 takesPlace shown new old =
     isLess (old .gap) (new .gap)

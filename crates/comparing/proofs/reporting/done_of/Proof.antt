@@ -1,15 +1,15 @@
 -- `comparing::reporting::done_of` shows the answer of each side, and the worse of both.
 use borrow.Author.Needs.{needs}
 use Rattle.outline.specs.declared.Side.the-variants.{A, B}
-use Rattle.comparing.proofs.CompareLaws.{orWithin-bounded, worse-positive}
+use Rattle.comparing.proofs.ReportLaws.{orWithin-bounded, worse-positive}
 use Rattle.comparing.proofs.reporting.done_of.Statement.{statement}
 use Rattle.comparing.proofs.reporting.done_of.Tie as tie
 
 worse-requires : tie.Need-worse-requires
 worse-requires c κs =
-    let start = c .before .before .before .before in let state = start .args .state in
-    let of-a = orWithin-bounded A (start .args .first-a) (state .a .worst) (start .pre .bounded-a) in
-    let of-b = orWithin-bounded B (start .args .first-b) (state .b .worst) (start .pre .bounded-b) in
+    let start = c .before .before .before .before in let args = start .args in let bounded = start .pre .bounded in
+    let of-a = orWithin-bounded A (args .listed-a .first) (args .state .a .worst) (bounded .bounded-a) in
+    let of-b = orWithin-bounded B (args .listed-b .first) (args .state .b .worst) (bounded .bounded-b) in
     (rw (c .before .or-within .ensures) of-a, rw (c .or-within2 .ensures) of-b)
 
 ceiling-root-requires : tie.Need-ceiling-root-requires

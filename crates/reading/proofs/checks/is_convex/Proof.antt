@@ -16,7 +16,9 @@ use Rattle.plane.proofs.Algebra.{side-end}
 use Rattle.plane.proofs.Range.{span-⇀}
 use Rattle.outline.specs.Convex.{AllInRange}
 use Rattle.outline.specs.Corners.{corners, corner}
+use Rattle.outline.specs.Orientation.{asHeld}
 use Rattle.outline.specs.code.Turns.{keepsLeftAt, isConvex}
+use Rattle.outline.proofs.OrientationLaws.{held-length, held-range}
 use Rattle.lists.specs.Fold.{fold}
 use Rattle.lists.proofs.FoldLaws.{Passing, pass-start, pass-on, pass-stop, pass-all}
 use Rattle.reading.specs.declared.checks.Visit.{Visit}
@@ -104,35 +106,40 @@ module _ {cs : List Corner} {n k : ℕ} {apex to : Corner} {run : Vector} {last 
         }
 
 abbrev Inv-loop : tie.InvT-loop
-Inv-loop s n apex last₀ run k₀ last k = Visiting (corners s) n apex run last k
+Inv-loop s o n apex last₀ run k₀ last k = Visiting (asHeld o (corners s)) n apex run last k
 
 abbrev μ-loop : tie.MeasureT-loop
-μ-loop s n apex last₀ run k₀ last k = n - k
+μ-loop s o n apex last₀ run k₀ last k = n - k
 
 returns : tie.Need-returns Inv-loop μ-loop
 unfolding isConvex fold
-returns c = let none : length (corners (c .before .before .args .s .now)) - 2 ≡ 0 = omega arith in rw none
+returns c =
+    let args = c .before .before .args in
+    let none : length (corners (args .s .now)) - 2 ≡ 0 = omega arith in
+    rw (held-length (args .orientation) (corners (args .s .now)), none)
 
 loop-holds : tie.Need-loop-holds Inv-loop μ-loop
 loop-holds c =
-    let visit = c .before in let taken = visit .before in
-    begins (taken .before .before .before .before .pre) (taken .before .before .before .count .ensures)
-    (taken .before .corner .ensures) (taken .corner2 .ensures) (visit .visit-of .ensures)
+    let visit = c .before in let taken = visit .before in let counted = taken .before .before .before in
+    let args = counted .before .args in let o = args .orientation in let cs = corners (args .s .now) in
+    begins (held-range o cs .0 (counted .before .pre)) (counted .count .ensures ∙ sym (held-length o cs))
+    (taken .before .held-corner .ensures) (taken .held-corner2 .ensures) (visit .visit-of .ensures)
 
 keeps-left-by-requires : tie.Need-keeps-left-by-requires Inv-loop μ-loop
 keeps-left-by-requires c κs =
-    in-reach (c .before .before .before .loop .inv) (omega arith) (c .before .corner3 .ensures) (c .visit-of2 .ensures)
+    in-reach (c .before .before .before .loop .inv) (omega arith) (c .before .held-corner3 .ensures)
+    (c .visit-of2 .ensures)
 
 returns-2 : tie.Need-returns-2 Inv-loop μ-loop
 returns-2 c =
     let visit = c .before .before in
-    stops (visit .before .before .before .loop .inv) (omega arith) (visit .before .corner3 .ensures)
+    stops (visit .before .before .before .loop .inv) (omega arith) (visit .before .held-corner3 .ensures)
     (visit .visit-of2 .ensures) (c .before .keeps-left-by .ensures) (c .if2 .taken)
 
 loop-again : tie.Need-loop-again Inv-loop μ-loop
 loop-again c =
     let visit = c .before .before in
-    goes-on (visit .before .before .before .loop .inv) (omega arith) (visit .before .corner3 .ensures)
+    goes-on (visit .before .before .before .loop .inv) (omega arith) (visit .before .held-corner3 .ensures)
     (visit .visit-of2 .ensures) (c .before .keeps-left-by .ensures) (c .if2 .left)
 
 returns-3 : tie.Need-returns-3 Inv-loop μ-loop

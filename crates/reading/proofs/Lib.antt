@@ -1,0 +1,2 @@
+-- Laws of the checks as the code makes them.
+pub mod CheckLaws
