@@ -31,7 +31,7 @@ ghost use Rattle.hausdorff.specs.Call.{IsComparison};
 // Reads the outline that the list `s` gives: x and y of corner 0, then of corner 1, and so on, in either orientation.
 // The outline is read as it is held, with the orientation of the list beside it: of a clockwise list corner 0, and then
 // the others in the opposite order. Refusals 1 to 6, where 6 is for a list that fits neither orientation; the outline
-// read then has no corners.
+// read then has no corners, and the orientation is `Counterclockwise`.
 pub fn read_outline(s: &[i32]) -> EitherReading
     ensures answer { λ r. ⌜ r ≡ eitherReading NoSide (now (s .entry)) ⌝ }
     ensures rules { λ r. ⌜ IsEitherReading NoSide (now (s .entry)) r ⌝ }

@@ -19,7 +19,7 @@ use Rattle.hausdorff.specs.declared.Report.the-variants as Report
 use Rattle.hausdorff.specs.declared.Comparison.{Comparison}
 use Rattle.hausdorff.specs.declared.Comparison.the-variants.{Refused, Reported}
 use Rattle.hausdorff.specs.code.Call.{comparison}
-use Rattle.hausdorff.proofs.CallLaws.{is-comparison, reported-means, spent-below}
+use Rattle.hausdorff.proofs.CallLaws.{is-comparison, reported-means, spent-report-below}
 use Rattle.fit_lines.specs.Lines.{comparisonText}
 use Rattle.fit_lines.proofs.LengthLaws.{refusal-line-fits, done-fits}
 use Rattle.fit_text.specs.declared.parsing.Outcome.the-variants as Outcome
@@ -32,7 +32,7 @@ never-spent : (s t : List ℤ) (p : Spent) → ¬ (comparison s t allowance ≡ 
 never-spent s t p is =
     let reports = rw is at (is-comparison s t allowance) in
     let tells = reported-means s t allowance (Report.Spent p) reports in
-    omega (arith, spent-below s t allowance p reports, tells .accepted-a .at-most, tells .accepted-b .at-most)
+    omega (arith, spent-report-below s t allowance p reports, tells .accepted-a .at-most, tells .accepted-b .at-most)
 
 -- what a comparison that is not spent writes
 comparison-laid-down : (c : Comparison) → ((p : Spent) → ¬ (c ≡ Reported (Report.Spent p)))

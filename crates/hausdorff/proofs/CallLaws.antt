@@ -5,10 +5,13 @@
 --     compare-refuses             the call refuses exactly with the refusal of the first condition that applies
 --     is-comparison               what the call gives is as rule 7.4 lays down: the refusal of the first condition that
 --                                 applies, or else a report that obeys the law
---     comparison-unique           and nothing else is
 --     both-accepted               the pair of two accepted outlines
---     reported-means              where it is a report both lists are accepted, and the law holds of it
---     spent-below, done-means     and where it is a spent report, or a done one, what the law says of that
+--     held-pair                   and of two that are accepted with orientations, as held
+--     Reports, reported-means     where it is a report both lists are accepted, and it is one that obeys the law, with its
+--                                 corners and edges named by the lists as given
+--     comparison-unique           so the call gives the only one that is as rule 7.4 lays down
+--     spent-report-below          where it is a spent one the allowance is below the number of corners of both
+--     DoneReports, done-means     where it is a done one, what the law says of that
 --     clearance-same              done reports with the same gap, as a value, have the same clearance
 --     comparison-swap             a done report of B with A has the same gap, as a value
 --     clearance-swap, sides-swap    so the same clearance; and the gap of A's side is that of B's
@@ -50,7 +53,7 @@ use Rattle.hausdorff.specs.declared.Report.{Report}
 use Rattle.hausdorff.specs.declared.Report.the-variants as Report
 use Rattle.hausdorff.specs.declared.Comparison.{Comparison}
 use Rattle.hausdorff.specs.declared.Comparison.the-variants.{Refused, Reported}
-use Rattle.hausdorff.specs.Pair.{both, bothOrientations}
+use Rattle.hausdorff.specs.Pair.{both}
 use Rattle.hausdorff.specs.Given.{givenDone, givenReport}
 use Rattle.hausdorff.specs.code.Pair.{AcceptedPair, Polygons}
 use Rattle.hausdorff.specs.code.Report.{report}
@@ -134,20 +137,6 @@ module _ (s t : List ℤ) (allowance : ℕ) where
       go Verdict.Taken takes =
           let (ok-a, ok-b) = pair-taken s t .0 takes in reported _ _ _ ok-a ok-b (obeys ok-a ok-b) refl
 
-  -- each case tells what the checks find, and so leaves one result
-  pub comparison-unique : {result : Comparison} → IsComparison s t allowance result → result ≡ comparison s t allowance
-  comparison-unique (refused r first is) = rw (is, pair-refused s t r .1 first)
-  comparison-unique (reported o q r ok-a ok-b lawful is) =
-      rw (pair-taken s t .1 (rw of-a ok-a, rw of-b ok-b), of-a, of-b) (is ∙ ap
-      (λ (x : Report). Reported (givenReport (heldPair o q s t) (bothOrientations o q) x))
-      (law-unique (held-polygons s t o q ok-a ok-b) lawful (law _ _ (held-pair s t o q ok-a ok-b) allowance)))
-    where
-      of-a : orientationOf (corners s) ≡ o
-      of-a = accepted-orientation o s ok-a
-
-      of-b : orientationOf (corners t) ≡ q
-      of-b = accepted-orientation q t ok-b
-
   pub reported-means : (q : Report) → IsComparison s t allowance (Reported q) → Reports s t allowance q
   reported-means q (refused r first is) = absurd (let z : _≡_ {A = ℕ} 0 1 = cc in omega arith)
   reported-means q (reported o p r ok-a ok-b lawful is) = record {
@@ -166,6 +155,20 @@ module _ (s t : List ℤ) (allowance : ℕ) where
 
       same-report : {x : Report} → Reported q ≡ Reported x → q ≡ x
       same-report e = cc
+
+  -- only one report is such
+  reports-unique : (q : Report) → Reports s t allowance q → Reported q ≡ comparison s t allowance
+  reports-unique q tells =
+      let ok-a = tells .accepted-a in let ok-b = tells .accepted-b in
+      rw (pair-taken s t .1 (ok-a, ok-b), tells .named)
+      (ap (λ (x : Report). Reported (givenReport (pairOf s t) (orientations s t) x))
+      (law-unique (held-polygons s t _ _ ok-a ok-b) (tells .lawful) (obeys ok-a ok-b)))
+
+  -- so each case leaves one result
+  pub comparison-unique : {result : Comparison} → IsComparison s t allowance result → result ≡ comparison s t allowance
+  comparison-unique (refused r first is) = rw (is, pair-refused s t r .1 first)
+  comparison-unique (reported o p r ok-a ok-b lawful is) =
+      is ∙ reports-unique _ (reported-means _ (reported o p r ok-a ok-b lawful refl))
 
   pub call-promises : {result : Comparison} → result ≡ comparison s t allowance
       → (result ≡ comparison s t allowance) × IsComparison s t allowance result
@@ -195,9 +198,9 @@ module _ (s t : List ℤ) (allowance : ℕ) where
           ap Reported (is ∙ λ i. reportFor (found-a i) (found-b i) s t allowance) ∙ by-verdict (by-b taken-b)
 
 -- a spent report tells that the allowance is below the number of corners of both
-pub spent-below : (s t : List ℤ) (k : ℕ) (p : Spent) → IsComparison s t k (Reported (Report.Spent p))
+pub spent-report-below : (s t : List ℤ) (k : ℕ) (p : Spent) → IsComparison s t k (Reported (Report.Spent p))
     → k < length (corners s) + length (corners t)
-spent-below s t k p is =
+spent-report-below s t k p is =
     let tells = reported-means s t k (Report.Spent p) is in go (tells .as-held) (tells .lawful) (tells .named)
   where
     go : (r : Report) → Law (pairOf s t) (orientations s t) k r

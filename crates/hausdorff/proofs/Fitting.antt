@@ -93,12 +93,13 @@ module _ {cs : List Corner} (ok : Accepted cs) where
     answers-fit {a} is =
         subst (λ (x : NearestPoint). NearestFits x) (sym (is .written)) (values-fit (a .point) (a .feature) (is .fits))
 
-    -- a feature of the list is one by its number as given
+    -- the number of a feature of the list fits
     feature-fits : (f : Feature) → FeatureBelow (length cs) f → FeatureFits f
     feature-fits Feature.Within below = tt
     feature-fits (Feature.Corner i) below = number-fits i below
     feature-fits (Feature.Edge i) below = number-fits i below
 
+    -- and so does its number in the list as given
     given-fits : (o : Orientation) {a : NearestPoint} → Answers cs v a → NearestFits (givenNearest o (length cs) a)
     given-fits o {a} is = let fits = answers-fit is in record {
       feature = feature-fits (givenFeature o (length cs) (a .feature))

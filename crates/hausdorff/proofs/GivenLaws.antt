@@ -43,28 +43,8 @@ use Rattle.hausdorff.specs.code.Call.{comparison}
 use Rattle.hausdorff.specs.code.Pair.{Polygons}
 use Rattle.hausdorff.specs.code.Report.{report}
 use Rattle.hausdorff.proofs.CallLaws.{held-pair, comparison-unique}
-use Rattle.hausdorff.proofs.Law.{law, law-spent, law-done}
+use Rattle.hausdorff.proofs.Law.{spent-same, done-same, law, law-spent, law-done}
 use Rattle.hausdorff.proofs.WorstLaws.{support-known}
-
--- two spent reports are one where their parts are
-spent-same : {p q : Spent} → p .steps ≡ q .steps → p .support .a ≡ q .support .a → p .support .b ≡ q .support .b
-    → p .worst ≡ q .worst → p .sides .a ≡ q .sides .a → p .sides .b ≡ q .sides .b → p ≡ q
-spent-same steps support-a support-b worst side-a side-b = λ i. record {
-  steps = steps i;
-  support = record { a = support-a i; b = support-b i };
-  worst = worst i;
-  sides = record { a = side-a i; b = side-b i };
-}
-
--- and so are two done ones
-done-same : {d e : Done} → d .steps ≡ e .steps → d .answer ≡ e .answer → d .clearance ≡ e .clearance
-    → d .sides .a ≡ e .sides .a → d .sides .b ≡ e .sides .b → d ≡ e
-done-same steps answer clearance side-a side-b = λ i. record {
-  steps = steps i;
-  answer = answer i;
-  clearance = clearance i;
-  sides = record { a = side-a i; b = side-b i };
-}
 
 -- ---- counterclockwise
 -- where both lists are, each side is

@@ -1,4 +1,5 @@
 -- Rule 6.4, the law, for every accepted pair and every allowance.
+--     spent-same, done-same   reports with the same parts are the same
 --     law                     what comparing returns obeys it
 --     law-spent, law-done     what it says of a spent report, and of a done one
 --     law-unique              it leaves one report
@@ -37,6 +38,26 @@ use Rattle.hausdorff.proofs.OverallWorst.{side-worst-is, worst-is, lead
 use Rattle.hausdorff.proofs.AnswerLaws.{side-answers, sweep-answers, answer-from-steps}
 use Rattle.hausdorff.proofs.AnswerLaws.{zero-side-answer, side-search-answers, search-answers}
 use Rattle.hausdorff.proofs.HausdorffLaws.{answer-directed, answer-hausdorff}
+
+-- two spent reports are one where their parts are
+pub spent-same : {p q : Spent} → p .steps ≡ q .steps → p .support .a ≡ q .support .a → p .support .b ≡ q .support .b
+    → p .worst ≡ q .worst → p .sides .a ≡ q .sides .a → p .sides .b ≡ q .sides .b → p ≡ q
+spent-same steps support-a support-b worst side-a side-b = λ i. record {
+  steps = steps i;
+  support = record { a = support-a i; b = support-b i };
+  worst = worst i;
+  sides = record { a = side-a i; b = side-b i };
+}
+
+-- and so are two done ones
+pub done-same : {d e : Done} → d .steps ≡ e .steps → d .answer ≡ e .answer → d .clearance ≡ e .clearance
+    → d .sides .a ≡ e .sides .a → d .sides .b ≡ e .sides .b → d ≡ e
+done-same steps answer clearance side-a side-b = λ i. record {
+  steps = steps i;
+  answer = answer i;
+  clearance = clearance i;
+  sides = record { a = side-a i; b = side-b i };
+}
 
 module _ (pair : Pair) (os : Orientations) (accepted : AcceptedPair pair) where
   polygons : Polygons pair
@@ -117,16 +138,11 @@ module _ (pair : Pair) (os : Orientations) (accepted : AcceptedPair pair) where
 done-unique : {pair : Pair} {os : Orientations} {d e : Done} → OfDone pair os d → OfDone pair os e → d ≡ e
 done-unique {d = d} {e} one other =
     let answers : d .answer ≡ e .answer = one .as-searched ∙ sym (other .as-searched) in
-    let gaps = ap (λ (w : CornerGap). w .gap) answers in λ i. record {
-      steps = (one .steps ∙ sym (other .steps)) i;
-      answer = answers i;
-      clearance = ceiling-unique (one .clearance)
-          (subst (λ x. IsClearance x (e .clearance)) (sym gaps) (other .clearance)) i;
-      sides = record {
-        a = (one .side-a .as-searched ∙ sym (other .side-a .as-searched)) i;
-        b = (one .side-b .as-searched ∙ sym (other .side-b .as-searched)) i;
-      };
-    }
+    let gaps = ap (λ (w : CornerGap). w .gap) answers in
+    done-same (one .steps ∙ sym (other .steps)) answers
+    (ceiling-unique (one .clearance) (subst (λ x. IsClearance x (e .clearance)) (sym gaps) (other .clearance)))
+    (one .side-a .as-searched ∙ sym (other .side-a .as-searched))
+    (one .side-b .as-searched ∙ sym (other .side-b .as-searched))
 
 spent≢done : (p : Spent) (d : Done) → ¬ (Report.Spent p ≡ Report.Done d)
 spent≢done p d is = let z : _≡_ {A = ℕ} 0 1 = cc in omega arith
@@ -159,19 +175,11 @@ module _ {pair : Pair} {os : Orientations} {allowance : ℕ} where
   module _ (polygons : Polygons pair) where
     spent-unique : {p q : Spent} → OfSpent pair os allowance p → OfSpent pair os allowance q → p ≡ q
     spent-unique {p} {q} one other =
-        let worst-a = leads-or-none-unique pair os polygons _ (p .sides .a) (q .sides .a) in
-        let worst-b = leads-or-none-unique pair os polygons _ (p .sides .b) (q .sides .b) in λ i. record {
-          steps = (one .steps ∙ sym (other .steps)) i;
-          support = record {
-            a = (one .support-a ∙ sym (other .support-a)) i;
-            b = (one .support-b ∙ sym (other .support-b)) i;
-          };
-          worst = leads-or-none-unique pair os polygons _ (p .worst) (q .worst) (one .worst) (other .worst) i;
-          sides = record {
-            a = worst-a (one .side-a .worst) (other .side-a .worst) i;
-            b = worst-b (one .side-b .worst) (other .side-b .worst) i;
-          };
-        }
+        spent-same (one .steps ∙ sym (other .steps)) (one .support-a ∙ sym (other .support-a))
+        (one .support-b ∙ sym (other .support-b))
+        (leads-or-none-unique pair os polygons _ (p .worst) (q .worst) (one .worst) (other .worst))
+        (leads-or-none-unique pair os polygons _ (p .sides .a) (q .sides .a) (one .side-a .worst) (other .side-a .worst))
+        (leads-or-none-unique pair os polygons _ (p .sides .b) (q .sides .b) (one .side-b .worst) (other .side-b .worst))
 
     -- what holds of it leaves one
     pub law-unique : {r q : Report} → Law pair os allowance r → Law pair os allowance q → r ≡ q

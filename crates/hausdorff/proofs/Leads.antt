@@ -1,5 +1,4 @@
 -- Gaps of corners, and which leads among some of them: the greatest, of equals the first.
---     given-one                    corners of a side with one number as given are one
 --     not-later-antisym            two corners of which neither is later are one
 --     not-later-on-side            on one side the numbers decide
 --     leads-map                    only which gaps it leads among matters, not how that is said
@@ -29,26 +28,20 @@ use Rattle.hausdorff.specs.code.Pair.{Polygons}
 use Rattle.hausdorff.specs.code.CornerGap.{cornerGap}
 use Rattle.hausdorff.specs.CornerGap.{worse}
 use Rattle.hausdorff.specs.Answer.{IsGap, NotLater, Leads}
-use Rattle.outline.specs.Orientation.{givenCorner}
-use Rattle.outline.proofs.OrientationLaws.{given-twice}
+use Rattle.outline.proofs.OrientationLaws.{given-injective}
 use Rattle.hausdorff.proofs.Preference.{PreferredOf}
 use Rattle.hausdorff.proofs.GapLaws.{gap-iff, gap-is, gap-lower}
-
--- a number as given is one corner's
-pub given-one : (pair : Pair) (os : Orientations) (s : Side) (i j : ℕ) → i < length (pair s) → j < length (pair s)
-    → given pair os s i ≡ given pair os s j → i ≡ j
-given-one pair os s i j known there same =
-    let n = length (pair s) in
-    sym (given-twice (os s) n i known) ∙ ap (givenCorner (os s) n) same ∙ given-twice (os s) n j there
 
 -- by the four cases of the sides
 pub not-later-antisym : (pair : Pair) (os : Orientations) (s t : Side) (i j : ℕ) → i < length (pair s) → j < length (pair t)
     → NotLater s (given pair os s i) t (given pair os t j) → NotLater t (given pair os t j) s (given pair os s i)
     → cornerGap pair s i ≡ cornerGap pair t j
-not-later-antisym pair os A A i j known there p q = ap (cornerGap pair A) (given-one pair os A i j known there (le-antisymm p q))
+not-later-antisym pair os A A i j known there p q =
+    ap (cornerGap pair A) (given-injective (os A) (length (pair A)) i j known there (le-antisymm p q))
 not-later-antisym pair os A B i j known there p q = absurd q
 not-later-antisym pair os B A i j known there p q = absurd p
-not-later-antisym pair os B B i j known there p q = ap (cornerGap pair B) (given-one pair os B i j known there (le-antisymm p q))
+not-later-antisym pair os B B i j known there p q =
+    ap (cornerGap pair B) (given-injective (os B) (length (pair B)) i j known there (le-antisymm p q))
 
 pub not-later-on-side : (s : Side) (i j : ℕ) → i ≤ j → NotLater s i s j
 not-later-on-side A i j p = p
@@ -119,7 +112,7 @@ module _ (pair : Pair) (os : Orientations) (polygons : Polygons pair) where
         first-of-equals = λ x gap. ⊎-elim (p .first-of-equals x gap) (λ u _. order x u);
       }
 
-  -- on one side the numbers are the shown numbers
+  -- on one side the numbers as given decide
   pub leads-of : (s : Side) (Q : ℕ → Type 0) (w : CornerGap) → w .corner < length (pair s) → PreferredOf pair os s Q w
       → Leads pair os (OnSide s Q) w
   leads-of s Q w below best = record {

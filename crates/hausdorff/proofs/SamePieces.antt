@@ -23,7 +23,7 @@ use Rattle.outline.specs.declared.Side.{Side}
 use Rattle.outline.specs.declared.Side.the-variants.{A, B}
 use Rattle.outline.specs.Corners.{corners}
 use Rattle.outline.specs.Orientation.{asHeld, AcceptedAs}
-use Rattle.nearest.proofs.Reversal.{start-piece, reversal-piece}
+use Rattle.nearest.proofs.Reversal.{cycle-piece, start-cycle, reversal-cycle}
 use Rattle.nearest.proofs.Rotation.{startingAt, SamePiece}
 use Rattle.hausdorff.specs.declared.Done.{Done}
 use Rattle.hausdorff.specs.declared.Report.the-variants as Report
@@ -46,11 +46,11 @@ SameOrReversed s t = (corners t ≡ corners s) ⊎ (corners t ≡ reverse (corne
 
 -- a list that starts at another corner gives the same piece
 pub start-same-piece : {s t : List ℤ} (k : ℕ) → corners t ≡ startingAt k (corners s) → SameHeldPiece s t
-start-same-piece k is = λ o q. start-piece k is
+start-same-piece k is = λ o q ok-s ok-t. cycle-piece _ _ (start-cycle ok-s ok-t k is)
 
 -- and so does one with the same corners, which starts at corner 0, or with these in the opposite order
 pub reversal-same-piece : {s t : List ℤ} → SameOrReversed s t → SameHeldPiece s t
-reversal-same-piece = ⊎-elim (start-same-piece 0) (λ is o q. reversal-piece is)
+reversal-same-piece = ⊎-elim (start-same-piece 0) (λ is o q ok-s ok-t. cycle-piece _ _ (reversal-cycle ok-s ok-t is))
 
 module _ (s t s' t' : List ℤ) (k j : ℕ) (d e : Done) (one : IsComparison s t k (Reported (Report.Done d)))
     (another : IsComparison s' t' j (Reported (Report.Done e))) where

@@ -12,18 +12,18 @@ use Rattle.hausdorff.specs.declared.Report.the-variants as Report
 use Rattle.hausdorff.specs.Pair.{Pair, Orientations, given, other}
 use Rattle.hausdorff.specs.CornerGap.{withCorner, nearestOf}
 
--- a corner of a side, and its nearest feature, which is the other side's
+-- a gap: the corner has its number in its own list, and the nearest feature has its number in the other list
 abbrev pub givenGap : Pair → Orientations → CornerGap → CornerGap
 givenGap pair os w =
     let t = other (w .side) in
     withCorner (w .side) (given pair os (w .side) (w .corner)) (givenNearest (os t) (length (pair t)) (nearestOf w))
 
--- the worst so far
+-- the worst so far: its gap, if there is one
 abbrev pub givenWorst : Pair → Orientations → WorstSoFar → WorstSoFar
 givenWorst pair os None = None
 givenWorst pair os (Worst w) = Worst (givenGap pair os w)
 
--- a spent report
+-- a spent report: its support corners, each with the number in its own list, and the worst so far
 abbrev pub givenSpent : Pair → Orientations → Spent → Spent
 givenSpent pair os p = record {
   steps = p .steps;
@@ -32,7 +32,7 @@ givenSpent pair os p = record {
   sides = record { a = givenWorst pair os (p .sides .a); b = givenWorst pair os (p .sides .b) };
 }
 
--- a done report
+-- a done report: its answer and the worst of each side
 abbrev pub givenDone : Pair → Orientations → Done → Done
 givenDone pair os d = record {
   steps = d .steps;
@@ -41,7 +41,7 @@ givenDone pair os d = record {
   sides = record { a = givenGap pair os (d .sides .a); b = givenGap pair os (d .sides .b) };
 }
 
--- a report
+-- a report, spent or done
 abbrev pub givenReport : Pair → Orientations → Report → Report
 givenReport pair os (Report.Spent p) = Report.Spent (givenSpent pair os p)
 givenReport pair os (Report.Done d) = Report.Done (givenDone pair os d)

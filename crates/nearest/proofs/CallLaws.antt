@@ -2,6 +2,8 @@
 --     point-refused, point-taken    the checks refuse with the refusal of the first condition that applies; they take
 --                                   an accepted outline and a point in range
 --     answer-refused, answer-found  the call refuses as they do, and answers where they take
+--     Answered                  what an answer tells: the list is accepted with an orientation, the point is in range,
+--                               and it is the answer for the list as held, named by the list as given
 --     nearest-answers, nearest-refuses    so it answers exactly what is laid down, and refuses exactly as that says
 --     is-nearest-answer         what the call gives is as rule 7.3 lays down
 --     nearestAnswer-unique      and nothing else is

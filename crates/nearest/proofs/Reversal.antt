@@ -4,18 +4,13 @@
 --     opposite                  the other orientation
 --     SameCycle                 two lists that differ only in where they start
 --     cycle-piece               they give the same piece
---     cycle-orientation         and where they are corners as held, either both or neither fit their orientations
 --     held-start, held-reversal    as held, a list and one that starts at another corner are two such lists, and so are
 --                               a list and one in the opposite order, which is held with the other orientation
---     orientation-start         a list that starts at another corner has the same orientation
---     orientation-reversal      a list in the opposite order has the other one
 --     accepted-start, accepted-reversal    a list of numbers of even length is accepted where one is that it differs from
---                               only in this
+--                               only in this: with the same orientation, or with the other one
 -- Of two lists of numbers that are accepted, where the corners of the second start at another corner, or are in the
 -- opposite order:
---     start-orientation, reversal-orientation    its orientation is the same; the other one
 --     start-cycle, reversal-cycle    as held they differ only in where they start
---     start-piece, reversal-piece    so they give the same piece
 --     nearest-start, nearest-reversal    and the call answers the same gap and the same point for both
 use Prim.Native.Nat.{ℕ, zero, suc, _%_}
 use mathlib.Core.Path.{_≡_, refl, sym, ap, _∙_}
@@ -29,14 +24,14 @@ use Rattle.plane.specs.declared.Corner.{Corner}
 use Rattle.plane.specs.declared.Point.{Point}
 use Rattle.outline.specs.declared.Orientation.{Orientation}
 use Rattle.outline.specs.declared.Orientation.the-variants.{Counterclockwise, Clockwise}
-use Rattle.outline.specs.Convex.{StrictlyConvex, Accepted}
+use Rattle.outline.specs.Convex.{Accepted}
 use Rattle.outline.specs.Corners.{corners, next, previous}
-use Rattle.outline.specs.Orientation.{HasOrientation, reversed, asHeld, AcceptedAs}
+use Rattle.outline.specs.Orientation.{reversed, asHeld, AcceptedAs}
 use Rattle.outline.specs.code.Polygon.{Polygon}
 use Rattle.outline.proofs.CornersLaws.{next-below, next-previous, previous-below}
 use Rattle.outline.proofs.EdgeLaws.{accepted-polygon}
 use Rattle.outline.proofs.EitherLaws.{held-accepted, accepted-held}
-use Rattle.outline.proofs.OrientationLaws.{held-convex, one-orientation}
+use Rattle.outline.proofs.OrientationLaws.{one-orientation}
 use Rattle.nearest.specs.declared.NearestAnswer.the-variants.{Found}
 use Rattle.nearest.specs.declared.NearestPoint.{NearestPoint}
 use Rattle.nearest.specs.Call.{IsNearestAnswer}
@@ -76,12 +71,6 @@ cycle-rotated cs is = λ Q invariant. rw is at (invariant cs)
 pub cycle-piece : (cs ds : List Corner) → SameCycle cs ds → SamePiece cs ds
 cycle-piece cs ds same z = same (λ es. InPiece es z) (λ es. rotated-piece es z)
 
--- a list fits an orientation where it is strictly convex as held, which does not depend on where that starts
-pub cycle-orientation : (o q : Orientation) (cs ds : List Corner) → SameCycle (asHeld o cs) (asHeld q ds)
-    → HasOrientation o cs ↔ HasOrientation q ds
-cycle-orientation o q cs ds same =
-    Iff·trans (held-convex o cs) (Iff·trans (same StrictlyConvex rotated-convex) (Iff·symm (held-convex q ds)))
-
 -- a list and one that starts at another corner differ, as held, only in where they start: clockwise, the one that
 -- starts at the next corner is, as held and rotated, the other as held
 pub held-start : (o : Orientation) (k : ℕ) (cs : List Corner) → SameCycle (asHeld o cs) (asHeld o (startingAt k cs))
@@ -102,16 +91,6 @@ held-reversal Counterclockwise cs = λ Q invariant. Iff·symm (cycle-rotated (re
     back : rotated (reversed (reverse cs)) ≡ cs
     back = sym (reverse-rotated (reverse cs)) ∙ reverse-reverse cs
 held-reversal Clockwise cs = cycle-rotated (reversed cs) (sym (reverse-rotated cs))
-
--- a list that starts at another corner has the same orientation
-pub orientation-start : (o : Orientation) (k : ℕ) (cs : List Corner)
-    → HasOrientation o cs ↔ HasOrientation o (startingAt k cs)
-orientation-start o k cs = cycle-orientation o o cs (startingAt k cs) (held-start o k cs)
-
--- and one in the opposite order has the other orientation
-pub orientation-reversal : (o : Orientation) (cs : List Corner)
-    → HasOrientation o cs ↔ HasOrientation (opposite o) (reverse cs)
-orientation-reversal o cs = cycle-orientation o (opposite o) cs (reverse cs) (held-reversal o cs)
 
 -- to be accepted does not depend on where a list starts
 rotated-accepted : RotationInvariant Accepted
@@ -155,35 +134,24 @@ module _ (o : Orientation) (s t : List ℤ) (even : length t % 2 ≡ 0) where
   pub accepted-reversal : corners t ≡ reverse (corners s) → AcceptedAs o s → AcceptedAs (opposite o) t
   accepted-reversal is = accepted-cycle o (opposite o) s t even (rw is (held-reversal o (corners s)))
 
-module _ {o q : Orientation} {s t : List ℤ} (k : ℕ) (is : corners t ≡ startingAt k (corners s)) (ok-s : AcceptedAs o s)
-    (ok-t : AcceptedAs q t) where
-  -- the orientation is the same
-  pub start-orientation : q ≡ o
-  start-orientation = one-orientation (corners t) (ok-t .at-least) q o (ok-t .fits)
-      (rw is (orientation-start o k (corners s) .0 (ok-s .fits)))
+module _ {o q : Orientation} {s t : List ℤ} (ok-s : AcceptedAs o s) (ok-t : AcceptedAs q t) where
+  -- a list is accepted with one orientation
+  cycle-held : (p : Orientation) → SameCycle (asHeld o (corners s)) (asHeld p (corners t))
+      → SameCycle (asHeld o (corners s)) (asHeld q (corners t))
+  cycle-held p same = rw one same
+    where
+      one : q ≡ p
+      one = one-orientation (corners t) (ok-t .at-least) q p (ok-t .fits)
+          (accepted-cycle o p s t (ok-t .even) same ok-s .fits)
 
-  -- so as held they differ only in where they start
-  pub start-cycle : SameCycle (asHeld o (corners s)) (asHeld q (corners t))
-  start-cycle = rw (start-orientation, is) (held-start o k (corners s))
+  -- so where it starts at another corner, they differ as held only in this
+  pub start-cycle : (k : ℕ) → corners t ≡ startingAt k (corners s)
+      → SameCycle (asHeld o (corners s)) (asHeld q (corners t))
+  start-cycle k is = cycle-held o (rw is (held-start o k (corners s)))
 
-  -- and they give the same piece
-  pub start-piece : SamePiece (asHeld o (corners s)) (asHeld q (corners t))
-  start-piece = cycle-piece (asHeld o (corners s)) (asHeld q (corners t)) start-cycle
-
-module _ {o q : Orientation} {s t : List ℤ} (is : corners t ≡ reverse (corners s)) (ok-s : AcceptedAs o s)
-    (ok-t : AcceptedAs q t) where
-  -- the orientation is the other one
-  pub reversal-orientation : q ≡ opposite o
-  reversal-orientation = one-orientation (corners t) (ok-t .at-least) q (opposite o) (ok-t .fits)
-      (rw is (orientation-reversal o (corners s) .0 (ok-s .fits)))
-
-  -- so as held they differ only in where they start
-  pub reversal-cycle : SameCycle (asHeld o (corners s)) (asHeld q (corners t))
-  reversal-cycle = rw (reversal-orientation, is) (held-reversal o (corners s))
-
-  -- and they give the same piece
-  pub reversal-piece : SamePiece (asHeld o (corners s)) (asHeld q (corners t))
-  reversal-piece = cycle-piece (asHeld o (corners s)) (asHeld q (corners t)) reversal-cycle
+  -- and where it is in the opposite order
+  pub reversal-cycle : corners t ≡ reverse (corners s) → SameCycle (asHeld o (corners s)) (asHeld q (corners t))
+  reversal-cycle is = cycle-held (opposite o) (rw is (held-reversal o (corners s)))
 
 -- ---- the nearest point
 -- a polygon whose nearest point to v is written with this gap and this point
@@ -240,9 +208,9 @@ module _ (v : Corner) (s t : List ℤ) (a b : NearestPoint) where
   -- the answer for a list that starts at another corner has the same gap and the same point
   pub nearest-start : (k : ℕ) → corners t ≡ startingAt k (corners s)
       → IsNearestAnswer v s (Found a) → IsNearestAnswer v t (Found b) → (a .gap ≡ b .gap) × (a .point ≡ b .point)
-  nearest-start k is for-s for-t = nearest-same for-s for-t (λ o q. start-cycle k is)
+  nearest-start k is for-s for-t = nearest-same for-s for-t (λ o q ok-s ok-t. start-cycle ok-s ok-t k is)
 
   -- and so has the answer for one in the opposite order
   pub nearest-reversal : corners t ≡ reverse (corners s)
       → IsNearestAnswer v s (Found a) → IsNearestAnswer v t (Found b) → (a .gap ≡ b .gap) × (a .point ≡ b .point)
-  nearest-reversal is for-s for-t = nearest-same for-s for-t (λ o q. reversal-cycle is)
+  nearest-reversal is for-s for-t = nearest-same for-s for-t (λ o q ok-s ok-t. reversal-cycle ok-s ok-t is)

@@ -1,4 +1,4 @@
--- What reading turns down and what it takes.
+-- What the strict reading refuses and what it takes.
 --     checks-decide        each check decides its condition
 --     check-refused        a list is refused exactly where a condition applies, with the refusal of the first that does
 --     check-taken          it is taken exactly where no condition applies
@@ -6,12 +6,12 @@
 --     convex-decides       6 alone
 --     range-taken, convex-taken    the check 4 takes exactly where all corners are in range, and 6 where they are
 --                          strictly convex
+--     convex-accepted      where the length is right and the corners are in range and strictly convex, all checks take
 -- Of 1 to 5, which both readings have:
 --     Sized                a list of even length, with 3 to 256 corners, all in range
 --     common-decide        each check decides its condition, and so does one more
 --     common-none, common-sized    none applies to such a list without equal neighbours, and only to such a list
 --     lengths-sized        the checks 1 to 3 take, and all corners are in range: it is such a list
---     convex-accepted      where the length is right and the corners are in range and strictly convex, all checks take
 use Prim.Native.Nat.{ℕ, _<_, _≤_, _%_}
 use mathlib.Core.Path.{_≡_, refl}
 use mathlib.Core.Logic.{_↔_, Iff·trans, _≢_}

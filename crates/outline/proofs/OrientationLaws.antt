@@ -1,12 +1,13 @@
 -- Rule 1.9: the orientation of a list of corners, and their numbers as held and as given.
 --     given-first                      corner 0 stays corner 0
 --     given-below, given-twice         the number as given is a corner's; taken twice it is the number as held
+--     given-injective                  so it is one corner's
 --     edge-below, edge-twice           and so of an edge
 --     given-rest                       clockwise, corner j + 1 is corner n - (j + 1) as given
 --     given-edge-start, given-edge-end    clockwise, an edge as given starts where the edge as held ends, and ends where
 --                                      that starts
 --     held-length, held-corner-given   as many corners are held, and corner j is the one with its number as given
---     held-range                       in range if those of the list are
+--     held-range                       in range exactly if those of the list are
 --     clockwise-convex                 a list is clockwise exactly where it is strictly convex as held
 --     held-convex                      so a list fits an orientation exactly where it is strictly convex as held
 --     held-distinct                    a list that is a polygon as held has no equal neighbours
@@ -63,6 +64,11 @@ given-twice Clockwise n (suc j) below =
   where
     back : n - suc j ≡ suc (n - suc (suc j))
     back = omega arith
+
+-- a number as given is one corner's
+pub given-injective : (o : Orientation) (n i j : ℕ) → i < n → j < n → givenCorner o n i ≡ givenCorner o n j → i ≡ j
+given-injective o n i j i-below j-below same =
+    sym (given-twice o n i i-below) ∙ ap (givenCorner o n) same ∙ given-twice o n j j-below
 
 pub edge-below : (o : Orientation) (n j : ℕ) → j < n → givenEdge o n j < n
 edge-below Counterclockwise n j below = below
@@ -150,10 +156,9 @@ held-left : (cs : List Corner) (e c : ℕ) → e < length cs → c < length cs
     → LeftOf (reversed cs) e c ↔ RightOf cs (givenEdge Clockwise (length cs) e) (givenCorner Clockwise (length cs) c)
 held-left cs e c e-below c-below = rw (held-length Clockwise cs, held-side cs e c e-below c-below) (side-back _ _ _)
 
--- numbers as given are those of other corners exactly where those as held are
+-- so other corners have other numbers as given
 given-other : (o : Orientation) (n i j : ℕ) → i < n → j < n → i ≢ j → givenCorner o n i ≢ givenCorner o n j
-given-other o n i j i-below j-below other same =
-    other (sym (given-twice o n i i-below) ∙ ap (givenCorner o n) same ∙ given-twice o n j j-below)
+given-other o n i j i-below j-below other same = other (given-injective o n i j i-below j-below same)
 
 -- an edge and a corner as given are those of an edge and a corner as held
 pub clockwise-convex : (cs : List Corner) → StrictlyClockwise cs ↔ StrictlyConvex (reversed cs)

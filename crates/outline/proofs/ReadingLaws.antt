@@ -1,7 +1,7 @@
--- What reading answers, as callers see it.
+-- What the strict reading answers, as callers see it.
 --     reading-taken      the list is taken exactly where its length is even and it gives an accepted outline
 --     reading-refused    it is refused exactly where a condition applies, with the refusal of the first that does
---     is-reading         what reading gives is as rule 7.2 lays down
+--     is-reading         what it gives is as rule 7.2 lays down
 --     reading-unique     and nothing else is
 --     reading-promises   so it has both parts of the call's contract
 -- Of a list that is taken:

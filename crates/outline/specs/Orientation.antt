@@ -42,7 +42,8 @@ unfoldable pub givenCorner : Orientation → ℕ → ℕ → ℕ
 givenCorner Counterclockwise n j = j
 givenCorner Clockwise n j = (n - j) % n
 
--- of n edges the number, in the list as given, of the one that is held as edge j
+-- of n edges the number, in the list as given, of the one that is held as edge j: in the list as given too, edge i joins
+-- corner i to the following one (`given-edge-start`, `given-edge-end`)
 abbrev pub givenEdge : Orientation → ℕ → ℕ → ℕ
 givenEdge Counterclockwise n j = j
 givenEdge Clockwise n j = n - 1 - j

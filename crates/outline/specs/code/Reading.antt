@@ -1,4 +1,4 @@
--- Reading an outline, computed: a check for each condition of rule 2.4, in their order. `whose` is the side that a
+-- The strict reading, computed: a check for each condition of rule 2.4, in their order. `whose` is the side that a
 -- refusal names. `proofs/Acceptance.antt` shows that the checks decide the conditions.
 use Prim.Native.Nat.{ℕ, _%_}
 use mathlib.Core.Bool.{Bool, not, _&&_}

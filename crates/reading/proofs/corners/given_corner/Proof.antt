@@ -11,20 +11,19 @@ use Rattle.outline.proofs.OrientationLaws.{given-first, given-rest}
 use Rattle.reading.proofs.corners.given_corner.Statement.{statement}
 use Rattle.reading.proofs.corners.given_corner.Tie as tie
 
-module _ {o : Orientation} (n : ℕ) (clockwise : o ≡ Clockwise) where
-  first : {j : ℕ} → j ≡ 0 → j < n → 0 ≡ givenCorner o n j
-  first is below = rw is (sym (given-first o n (omega arith)))
+first : (o : Orientation) (n : ℕ) {j : ℕ} → j ≡ 0 → j < n → 0 ≡ givenCorner o n j
+first o n is below = rw is (sym (given-first o n (omega arith)))
 
-  later : (j : ℕ) → j ≢ 0 → j < n → n - j ≡ givenCorner o n j
-  later zero other below = absurd (other refl)
-  later (suc j) other below = rw clockwise (sym (given-rest n j (omega arith)))
+later : {o : Orientation} (n : ℕ) → o ≡ Clockwise → (j : ℕ) → j ≢ 0 → j < n → n - j ≡ givenCorner o n j
+later n clockwise zero other below = absurd (other refl)
+later n clockwise (suc j) other below = rw clockwise (sym (given-rest n j (omega arith)))
 
 returns : tie.Need-returns
 unfolding givenCorner
 returns c = rw (c .enum-told .given .1)
 
 returns-2 : tie.Need-returns-2
-returns-2 c = first _ (c .before .enum-told2 .given .1) (c .if1 .taken) (omega arith)
+returns-2 c = first _ _ (c .if1 .taken) (omega arith)
 
 returns-3 : tie.Need-returns-3
 returns-3 c = later _ (c .before .enum-told2 .given .1) _ (c .if1 .left) (omega arith)
