@@ -502,18 +502,23 @@ def worked():
             yield a, b, [0, LARGEST_ALLOWANCE]
 
 
-def generated(random):
-    for _ in range(1200):
+def random_pairs(random, smalls, middlings, larges, near_ties):
+    """So many random pairs of each kind."""
+    for _ in range(smalls):
         a = small(random)
         yield a, beside(random, a) if random.below(2) else small(random)
-    for _ in range(700):
+    for _ in range(middlings):
         a = middling(random)
         yield a, beside(random, a) if random.below(3) else middling(random)
-    for _ in range(150):
+    for _ in range(larges):
         yield large(random), large(random)
-    for _ in range(60):
+    for _ in range(near_ties):
         a, b = near_tie(random)
         yield (a, b) if random.below(2) else (b, a)
+
+
+def generated(random):
+    yield from random_pairs(random, 1200, 700, 150, 60)
     for count in (32, 63, 64, 100, 128, 200, 255, 256, 256, 256):
         a = from_edges(random, count, 100)
         yield a, from_edges(random, random.one_of([3, count, 256]), 100)
@@ -570,17 +575,7 @@ def ties(random):
 
 def generated_in_orientations(random):
     """Random pairs, as `generated` makes them."""
-    for _ in range(200):
-        a = small(random)
-        yield a, beside(random, a) if random.below(2) else small(random)
-    for _ in range(120):
-        a = middling(random)
-        yield a, beside(random, a) if random.below(3) else middling(random)
-    for _ in range(40):
-        yield large(random), large(random)
-    for _ in range(12):
-        a, b = near_tie(random)
-        yield (a, b) if random.below(2) else (b, a)
+    yield from random_pairs(random, 200, 120, 40, 12)
     for _ in range(8):
         yield near_tie_of_sides(random)
 
