@@ -1,6 +1,6 @@
 /* Times the call for the nearest point, and its core alone, at 4, 32 and 256 corners.
    For each count: an outline of points on a circle, and 1,000 points; all within the piece (the longest pass), or all outside.
-   The call reads the outline each time; the core has it read once. Each figure is the median of 31 runs, in nanoseconds. */
+   The call checks the list each time; the core has it checked once. Each figure is the median of 31 runs, in nanoseconds. */
 #include <math.h>
 #include <stdint.h>
 #include <stdio.h>

@@ -1,5 +1,8 @@
 /* Comparing two outlines in plain C, for the benchmark alone: the sweep with 128-bit products, and the exhaustive search. Nothing is checked;
    the outlines must be accepted ones. */
+#ifndef PLAIN_H
+#define PLAIN_H
+
 #include <stddef.h>
 #include <stdint.h>
 
@@ -133,7 +136,8 @@ static Done done(size_t steps, Gap a, Gap b) {
     return (Done){steps, answer, clearance(answer.gap), a, b};
 }
 
-static Done plain_sweep(const Corner *a, size_t n, const Corner *b, size_t m) {
+/* gcc is kept from inlining this and the search: they are calls as the proved one is. */
+static __attribute__((noinline)) Done plain_sweep(const Corner *a, size_t n, const Corner *b, size_t m) {
     size_t i = lowest(a, n), j = lowest(b, m), left_a = n, left_b = m;
     Worst worst_a = {0}, worst_b = {0};
     for (size_t k = 0; k < n + m; k++) {
@@ -185,6 +189,8 @@ static Gap worst_of(int side, const Corner *o, size_t n, const Corner *other, si
     return worst;
 }
 
-static Done plain_search(const Corner *a, size_t n, const Corner *b, size_t m) {
+static __attribute__((noinline)) Done plain_search(const Corner *a, size_t n, const Corner *b, size_t m) {
     return done(n + m, worst_of(0, a, n, b, m), worst_of(1, b, m, a, n));
 }
+
+#endif

@@ -84,6 +84,16 @@ static void compare(const int32_t *a, size_t a_length, const int32_t *b, size_t 
     }
 }
 
+static void mismatch(const int32_t *a, size_t a_length, const int32_t *b, size_t b_length) {
+    int64_t result[RAVINEBOWL_MISMATCH_LENGTH];
+    struct ravinebowl_status status = ravinebowl_mismatch(a, a_length, b, b_length, result, COUNT(result));
+    if (status.code != RAVINEBOWL_ANSWERED) {
+        print_refusal(status);
+        return;
+    }
+    printf("mismatch %" PRId64 "/%d\n", result[RAVINEBOWL_MISMATCH_SUM], RAVINEBOWL_MISMATCH_UNITS);
+}
+
 static void nearest_point(int32_t x, int32_t y, const int32_t *outline, size_t length) {
     int64_t result[RAVINEBOWL_NEAREST_LENGTH];
     struct ravinebowl_status status = ravinebowl_nearest_point(x, y, outline, length, result, COUNT(result));
@@ -131,6 +141,10 @@ int main(void) {
     compare(CLOCKWISE, COUNT(CLOCKWISE), SQUARE, COUNT(SQUARE), 4);
     compare(STAR, COUNT(STAR), SQUARE, COUNT(SQUARE), RAVINEBOWL_ENOUGH_STEPS);
     compare(SQUARE, COUNT(SQUARE), NULL, 0, RAVINEBOWL_ENOUGH_STEPS);
+    mismatch(SQUARE, COUNT(SQUARE), TRIANGLE, COUNT(TRIANGLE));
+    mismatch(CLOCKWISE, COUNT(CLOCKWISE), SQUARE, COUNT(SQUARE));
+    mismatch(SQUARE, COUNT(SQUARE), MOVED, COUNT(MOVED));
+    mismatch(SQUARE, COUNT(SQUARE), STAR, COUNT(STAR));
     nearest_point(6, 6, WEDGE, COUNT(WEDGE));
     nearest_point(12, 9, WEDGE, COUNT(WEDGE));
     nearest_point(1, 1, WEDGE, COUNT(WEDGE));

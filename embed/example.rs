@@ -1,7 +1,7 @@
 //! Calls Ravinebowl from Rust. example.c makes the same calls and prints the same lines.
 mod ravinebowl;
 
-use ravinebowl::{Comparison, CornerGap, NearestPoint, ENOUGH_STEPS};
+use ravinebowl::{Comparison, CornerGap, NearestPoint, ENOUGH_STEPS, MISMATCH_UNITS};
 
 const SQUARE: [i32; 8] = [0, 0, 4, 0, 4, 4, 0, 4];
 const TRIANGLE: [i32; 6] = [0, 0, 4, 0, 0, 4];
@@ -67,6 +67,13 @@ fn compare(a: &[i32], b: &[i32], allowance: u32) {
     }
 }
 
+fn mismatch(a: &[i32], b: &[i32]) {
+    match ravinebowl::mismatch(a, b) {
+        Err(refusal) => println!("{refusal}"),
+        Ok(sum) => println!("mismatch {sum}/{MISMATCH_UNITS}"),
+    }
+}
+
 fn nearest_point(x: i32, y: i32, outline: &[i32]) {
     match ravinebowl::nearest_point(x, y, outline) {
         Err(refusal) => println!("{refusal}"),
@@ -106,6 +113,10 @@ fn main() {
     compare(&CLOCKWISE, &SQUARE, 4);
     compare(&STAR, &SQUARE, ENOUGH_STEPS);
     compare(&SQUARE, &[], ENOUGH_STEPS);
+    mismatch(&SQUARE, &TRIANGLE);
+    mismatch(&CLOCKWISE, &SQUARE);
+    mismatch(&SQUARE, &MOVED);
+    mismatch(&SQUARE, &STAR);
     nearest_point(6, 6, &WEDGE);
     nearest_point(12, 9, &WEDGE);
     nearest_point(1, 1, &WEDGE);

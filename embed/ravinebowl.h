@@ -1,7 +1,9 @@
-/* Ravinebowl: the Hausdorff distance of two convex outlines, the nearest point of an outline, and removing a corner, in exact whole
- * numbers. The functions are those of crates/ravinebowl, which `rt staticlib ravinebowl` builds as target/staticlib/libravinebowl.a.
+/* Ravinebowl: the Hausdorff distance and the mismatch sum of two convex outlines, the nearest point of an outline, and removing a corner, in
+ * exact whole numbers. The functions are those of crates/ravinebowl, which `rt staticlib ravinebowl` builds as
+ * target/staticlib/libravinebowl.a.
  *
- * Units. Coordinates and the clearance are in whole millimetres; a gap, which is a squared distance, is in square millimetres.
+ * Units. Coordinates and the clearance are in whole millimetres; a gap, which is a squared distance, is in square millimetres, and a
+ * mismatch sum in whole units of 1/1024 square millimetre.
  *
  * Lists. A list is a pointer to its first number and the count of its numbers. An outline is a list of coordinates: x and y of
  * corner 0, then of corner 1, and so on. Edge i runs from corner i to corner i + 1, the last edge back to corner 0. An outline is accepted
@@ -11,9 +13,9 @@
  * Strictly left of an edge from (px, py) to (qx, qy) is a point (x, y) for which (qx - px) * (y - py) - (qy - py) * (x - px) is above 0,
  * and strictly right one for which it is below 0.
  *
- * Orientation. Comparing and the nearest point take outlines of either orientation, removing a corner takes counterclockwise ones alone.
- * Every number of a corner or an edge, in a result and in the place of a refusal, is its number in the list as given: edge i joins corner i
- * to the following one, whichever way round the list goes.
+ * Orientation. Comparing, the mismatch sum and the nearest point take outlines of either orientation, removing a corner takes
+ * counterclockwise ones alone. Every number of a corner or an edge, in a result and in the place of a refusal, is its number in the list as
+ * given: edge i joins corner i to the following one, whichever way round the list goes.
  *
  * What a caller must see to. A pointer must be aligned, and good for as many numbers as the count says; a list that is empty may have any
  * pointer. A list that is written (`result`, `out`) must not overlap another list of the same call. Lists that are only read may overlap or
@@ -51,9 +53,9 @@ enum ravinebowl_code {
     RAVINEBOWL_TOO_MANY_CORNERS = 3,     /* more than 256 corners */
     RAVINEBOWL_OUT_OF_RANGE = 4,         /* a corner has a coordinate out of range; place: the lowest such corner */
     RAVINEBOWL_REPEATED = 5,             /* a corner equals the one after it; after the last comes corner 0; place: the lowest such corner */
-    RAVINEBOWL_NOT_LEFT = 6,             /* comparing, nearest point: the list fits neither orientation; removing a corner: it is not
-                                          * counterclockwise; place, of all three: the lowest edge that some corner, other than its ends,
-                                          * is not strictly left of, and the lowest such corner */
+    RAVINEBOWL_NOT_LEFT = 6,             /* removing a corner: the list is not counterclockwise; the other calls: it fits neither
+                                          * orientation; place, of all calls: the lowest edge that some corner, other than its ends, is
+                                          * not strictly left of, and the lowest such corner */
     RAVINEBOWL_POINT_OUT_OF_RANGE = 7,   /* the point is out of range */
     RAVINEBOWL_NO_SUCH_CORNER = 8,       /* no corner has that number */
     RAVINEBOWL_WRONG_LENGTH = 9,         /* the list to write is not exactly as long as what remains */
@@ -137,6 +139,15 @@ enum ravinebowl_compare_place {
     RAVINEBOWL_COMPARE_LENGTH = 32
 };
 
+/* How many units of a mismatch sum make a square millimetre. */
+#define RAVINEBOWL_MISMATCH_UNITS 1024
+
+/* The place of the result list of ravinebowl_mismatch, and its length. */
+enum ravinebowl_mismatch_place {
+    RAVINEBOWL_MISMATCH_SUM = 0, /* in units of 1/1024 square millimetre; at most 1,073,741,824,000,000 */
+    RAVINEBOWL_MISMATCH_LENGTH = 1
+};
+
 /* Compares outlines A and B, each of either orientation, in at most `allowance` steps and writes 32 numbers to `result`. It is done if the
  * allowance is not below the number of edges of both, and otherwise spent. When done, the gap is the squared Hausdorff distance, and A's gap
  * and B's are the two squared directed Hausdorff distances, from A to B and from B to A, of which it is the greater. With the corners of a
@@ -144,6 +155,14 @@ enum ravinebowl_compare_place {
  * Order: 100, then 1 to 6 for A, then 1 to 6 for B. */
 struct ravinebowl_status ravinebowl_compare(const int32_t *a, size_t a_length, const int32_t *b, size_t b_length, uint32_t allowance,
                                             int64_t *result, size_t result_length);
+
+/* Finds the mismatch sum of outlines A and B, each of either orientation, and writes 1 number to `result`: over every corner of each outline
+ * its gap, the squared distance to the nearest point of the other, 0 in it, brought down to a whole number of units of 1/1024 square
+ * millimetre, and those added. It is never above the exact sum of the gaps, and below it by less than a unit for each corner of both; it is
+ * 0 exactly if every gap is below a unit. It is the same with the outlines exchanged, with the corners of a list in the opposite order, and
+ * with a list that starts at another corner. Order: 100, then 1 to 6 for A, then 1 to 6 for B. */
+struct ravinebowl_status ravinebowl_mismatch(const int32_t *a, size_t a_length, const int32_t *b, size_t b_length, int64_t *result,
+                                             size_t result_length);
 
 /* Finds the nearest point of an outline, of either orientation, to the point (x, y) and writes 7 numbers to `result`. With the corners in
  * the opposite order gap and point are the same. Order: 100, then 1 to 6, then 7. */

@@ -1,6 +1,7 @@
 //! Ravinebowl from Rust: a safe wrapper of the C functions, which ravinebowl.h describes. No function panics, whatever it is handed.
-//! Comparing and the nearest point take outlines of either orientation, removing a corner takes counterclockwise ones alone. The numbers
-//! of corners and edges are those of the list as given: edge i joins corner i to the following one, whichever way round the list goes.
+//! Comparing, the mismatch sum and the nearest point take outlines of either orientation, removing a corner takes counterclockwise ones
+//! alone. The numbers of corners and edges are those of the list as given: edge i joins corner i to the following one, whichever way round
+//! the list goes.
 
 use std::fmt;
 
@@ -29,6 +30,14 @@ extern "C" {
         result: *mut i64,
         result_length: usize,
     ) -> Status;
+    fn ravinebowl_mismatch(
+        a: *const i32,
+        a_length: usize,
+        b: *const i32,
+        b_length: usize,
+        result: *mut i64,
+        result_length: usize,
+    ) -> Status;
     fn ravinebowl_nearest_point(
         x: i32,
         y: i32,
@@ -48,6 +57,7 @@ extern "C" {
 
 /// The lengths of the result lists.
 pub const COMPARE_LENGTH: usize = 32;
+pub const MISMATCH_LENGTH: usize = 1;
 pub const NEAREST_LENGTH: usize = 7;
 
 /// Where the numbers of the worst corner begin in the result list of a comparison, of A's and of B's.
@@ -60,6 +70,9 @@ const CLEARANCE_PLACE: usize = 13;
 
 /// A number of steps that is enough for any comparison.
 pub const ENOUGH_STEPS: u32 = 512;
+
+/// How many units of a mismatch sum make a square millimetre.
+pub const MISMATCH_UNITS: u64 = 1024;
 
 /// One of the two outlines that are compared.
 #[derive(Clone, Copy, Debug, PartialEq, Eq)]
@@ -138,8 +151,8 @@ pub enum Place {
     EdgeAndCorner(usize, usize),
 }
 
-/// Why a call refused: the numbers are in ravinebowl.h. There is a side where there are two outlines. 6 is, in comparing and the
-/// nearest point, for a list that fits neither orientation; in removing a corner for one that is not counterclockwise.
+/// Why a call refused: the numbers are in ravinebowl.h. There is a side where there are two outlines. 6 is, in removing a corner,
+/// for a list that is not counterclockwise; in the other calls for one that fits neither orientation.
 #[derive(Clone, Copy, Debug, PartialEq, Eq)]
 pub struct Refusal {
     pub number: u32,
@@ -238,6 +251,21 @@ pub fn compare_into(a: &[i32], b: &[i32], allowance: u32, result: &mut [i64]) ->
     }
 }
 
+/// As `mismatch`, with the number written to `result`, whose length must be `MISMATCH_LENGTH`.
+pub fn mismatch_into(a: &[i32], b: &[i32], result: &mut [i64]) -> Status {
+    // SAFETY: as above.
+    unsafe {
+        ravinebowl_mismatch(
+            a.as_ptr(),
+            a.len(),
+            b.as_ptr(),
+            b.len(),
+            result.as_mut_ptr(),
+            result.len(),
+        )
+    }
+}
+
 /// As `nearest_point`, with the numbers written to `result`, whose length must be `NEAREST_LENGTH`.
 pub fn nearest_point_into(x: i32, y: i32, outline: &[i32], result: &mut [i64]) -> Status {
     // SAFETY: as above.
@@ -310,6 +338,15 @@ pub fn compare(a: &[i32], b: &[i32], allowance: u32) -> Result<Comparison, Refus
             worst_b,
         },
     })
+}
+
+/// The mismatch sum of two outlines, each of either orientation: over every corner of each its gap to the other, brought down to a
+/// whole number of units of 1/1024 square millimetre, and those added. At most 1,073,741,824,000,000.
+pub fn mismatch(a: &[i32], b: &[i32]) -> Result<u64, Refusal> {
+    let mut result = [0; MISMATCH_LENGTH];
+    mismatch_into(a, b, &mut result).answered()?;
+    let [sum] = result;
+    Ok(sum as u64)
 }
 
 /// Finds the nearest point of an outline, of either orientation, to the point (x, y).

@@ -2,25 +2,29 @@
 and crates/call_cases/stdout.
 
 Run without arguments from anywhere. The same seed gives the same files, on any machine. The input has the number of
-cases, and for each how many numbers A's list has and the numbers, the same of B's, and eight numbers: x and y of a
+cases, and for each how many numbers A's list has and the numbers, the same of B's, and nine numbers: x and y of a
 point, the length of the result list for its nearest point, a corner number in two parts (over 2^32, and the rest), the
-length of the list to write in removing it, an allowance, and the length of the result list of comparing. The cases of
-`of_orientations`, which come last, have clockwise lists. The script prints how many cases there are, and how many
-comparisons of each kind.
+length of the list to write in removing it, an allowance, and the lengths of the result lists of comparing and of the
+mismatch sum. The cases of `of_orientations` have clockwise lists; those of `of_mismatch`, which come last, are for the
+mismatch sum. The script prints how many cases there are, how many comparisons of each kind, and how many mismatch sums
+would differ for each of several mistakes.
 """
+import fractions
 from collections import Counter
-from itertools import product
+from itertools import chain, product
+from math import isqrt
 from pathlib import Path
 
-from call_reference import COMPARE_LENGTH, FEATURES, FILL, NEAREST_LENGTH, answers, c_compare, line
-from call_reference import nearest_point, read_outline, read_outline_strict, remove_corner
+from call_reference import COMPARE_LENGTH, FEATURES, FILL, MISMATCH_LENGTH, NEAREST_LENGTH, UNITS, answers, c_compare
+from call_reference import c_mismatch, check_mismatch, gaps, line, mismatch, mismatch_sum, nearest_point
+from call_reference import pair_refusal, read_outline, read_outline_strict, remove_corner
 from fit import spoiled
 from pairs import ABOUT, ABOUT_FROM_LATER, ABOUT_MOVED, AROUND, CLOCKWISE, CLOCKWISE_MOVED, CLOCKWISE_SIDES
 from pairs import CLOCKWISE_SQUARE, FAULTY, LARGEST, LARGEST_ALLOWANCE, LOWER, MOVED, SIDES, SQUARE, STAR, STRAIGHT
 from pairs import TRIANGLE, TURNED, UPPER, Random, beside, clockwise, from_corner, from_edges, in_orientations
-from pairs import is_clockwise, large, middling, near_tie, near_tie_of_sides, numbers, opposite, rounded, roundings
-from pairs import small, which, which_number
-from reference import LIMIT, Comparing, corners, default_refusal, edge, is_within, minus, refusal, side_number
+from pairs import is_clockwise, large, middling, moved, near_tie, near_tie_of_sides, numbers, opposite, over_edge
+from pairs import rounded, roundings, small, which, which_number
+from reference import LIMIT, Comparing, corners, default_refusal, dot, edge, is_within, minus, refusal, side_number
 
 SEED = 20261116
 LARGEST_COORDINATE, LEAST_COORDINATE = 2**31 - 1, -2**31
@@ -87,6 +91,62 @@ STATED = [
     (c_compare(CLOCKWISE_SQUARE, CLOCKWISE_MOVED, 8, COMPARE_LENGTH), "c_compare 0 0 0 0 0 "
      "list 0 8 -1 -1 1 0 1 0 100 1 10 0 1 10 1 0 1 0 100 1 10 0 1 2 2 1 2 100 1 4 4 1"),
     (c_compare(SQUARE, TRIANGLE, 7, BEFORE_SIDES), "c_compare 100 0 0 0 0 list" + 14 * " 77"),
+    (mismatch(SQUARE, TRIANGLE), "mismatch 8192"),
+    (mismatch(CLOCKWISE, CLOCKWISE_SQUARE), "mismatch 8192"),
+    (mismatch(SQUARE, MOVED), "mismatch 557056"),
+    (mismatch(CLOCKWISE_MOVED, TURNED), "mismatch 557056"),
+    (mismatch(SQUARE, SQUARE), "mismatch 0"),
+    # Of each list a corner has 4095872001/2, and two have 2047872002/1.
+    (mismatch(LOWER, UPPER), "mismatch 12582256649216"),
+    (mismatch(STAR, [0]), "mismatch refused A 6 0 3"),
+    (mismatch(SQUARE, [0, 0, 4, 0, 4, 0, 0, 4]), "mismatch refused B 5 1"),
+    (c_mismatch(SQUARE, TRIANGLE, MISMATCH_LENGTH), "c_mismatch 0 0 0 0 0 list 8192"),
+    (c_mismatch(SQUARE, STAR, MISMATCH_LENGTH), "c_mismatch 6 2 2 0 3 list 77"),
+    (c_mismatch([0], STAR, MISMATCH_LENGTH), "c_mismatch 1 1 0 0 0 list 77"),
+    (c_mismatch(SQUARE, TRIANGLE, 0), "c_mismatch 100 0 0 0 0 list"),
+    (c_mismatch(STAR, [0], 2), "c_mismatch 100 0 0 0 0 list 77 77"),
+]
+
+# Wrong lengths of the result list of the mismatch sum.
+OTHER_LENGTHS = [0, 2, NEAREST_LENGTH, COMPARE_LENGTH]
+# A corner over an edge, for `over_edge`, and 1024 times its gap, brought down. The squared length of an edge without a
+# whole point between its ends is odd or twice an odd number, so 1024 times a gap is whole only where twice the gap is.
+UNITS_OVER_EDGES = [
+    # The least gap; just below and just above 1 and 2.
+    (32000, 31999, 1, 0),
+    (32000, 1, 1000, 0),
+    (31762, 30357, 1373, 1),
+    (31128, 22753, 1704, 1),
+    (31826, 31211, 1970, 2),
+    # Just below 512, and 512; just below and above 1023; just below 1024, and 1024; just below and above 1025.
+    (22001, 21999, 22000, 511),
+    (1, 1, 1, 512),
+    (8503, 51, 8499, 1022),
+    (31104, 28673, 42283, 1023),
+    (31999, 1, 31999, 1023),
+    (20, 21, 29, 1024),
+    (16387, 4, 16395, 1024),
+    (10139, 32, 10144, 1025),
+    # Below a whole number by 1 over the squared length, the second and third not so in doubles; above one by as much.
+    (8362, 14589, 49666, 8932),
+    (10746, 14947, 218090426, 143719358308),
+    (29894, 4311, 886750590, 882664667292),
+    (29704, 6239, 892463589, 885323880319),
+    # 1024 times the square of the side number: below and above 2^63, below 2^64, and 2^64.
+    (20000, 1, 94906265, 23058429731),
+    (32000, 3, 94906266, 9007199246),
+    (21001, 20000, 134217727, 21933201643),
+    (15999, 16000, 134217728, 36031048889),
+]
+# A long rhombus, of which each edge has the squared length 256000001, and outlines with corners over its edges at side
+# numbers of 500, for which 1024 times the gap is just below 1, and of 501.
+RHOMBUS = [-16000, 0, 0, -1, 16000, 0, 0, 1]
+OVER_RHOMBUS = [
+    (RHOMBUS, [-16000, 0, -500, -1, 500, -1, 16000, 0, 500, 1, -500, 1], 0),
+    ([-16000, 0, -501, -1, 501, -1, 16000, 0, 501, 1, -501, 1], RHOMBUS, 4),
+    ([-16000, 0, -500, 1, 501, 1, 16000, 0, 500, -1, -501, -1], RHOMBUS, 2),
+    ([-16000, 0, -500, -1, 0, -1, 16000, 0, 0, 1], [-16000, 0, 0, -1, 16000, 0, 500, 1, 0, 1], 0),
+    ([-16000, 0, 0, -1, 501, -1, 16000, 0, 0, 1], [-16000, 0, -501, 1, 0, 1, 16000, 0, 0, -1], 2),
 ]
 
 
@@ -271,8 +331,52 @@ def of_orientations(random):
         yield a, b, numbers_for(random, a, b, default_refusal)
 
 
+def pairs_of_mismatch(random):
+    # The examples, with the lists exchanged, clockwise and from other corners.
+    yield from [(SQUARE, TRIANGLE), (TRIANGLE, SQUARE), (CLOCKWISE_SQUARE, TRIANGLE), (SQUARE, CLOCKWISE),
+                (CLOCKWISE, CLOCKWISE_SQUARE), (TURNED, [0, 4, 0, 0, 4, 0]), (SQUARE, MOVED),
+                (CLOCKWISE_MOVED, TURNED), (SQUARE, SQUARE), (CLOCKWISE_SQUARE, TURNED)]
+    # Nested, equal, touching, crossing and apart; touching along a part of an edge, and by a corner on an edge.
+    for k in (1, 3, 5, 6, 8, 11, 12, 16, 19, 23, 26, 29):
+        yield SIDES[k] if k % 2 else SIDES[k][::-1]
+    yield from [(SQUARE, [4, 1, 9, 1, 9, 3, 4, 3]), ([9, 4, 9, 0, 4, 2], CLOCKWISE_SQUARE)]
+    for number, (x, y, side, _) in enumerate(UNITS_OVER_EDGES):
+        a, b = (numbers(piece) for piece in in_orientations(*over_edge(x, y, side), CLOCKWISE_SIDES[number % 4]))
+        yield (a, b) if number % 3 else (b, a)
+    for a, b, _ in OVER_RHOMBUS:
+        yield a, b
+    # At the ends of the range, one in the other or apart. The halves of the largest square have the largest side
+    # numbers; the longest edge of the second half has no whole point between its ends.
+    half, other_half = LARGEST[:4] + LARGEST[6:], [-15999, 16000] + LARGEST[2:6]
+    yield from [(UPPER, LARGEST), (half, UPPER), (LOWER, other_half)]
+    # Nearly the largest sum.
+    piece = from_edges(random, 256, 12)
+    far = moved(piece, *(-LIMIT - min(corner[k] for corner in piece) for k in (0, 1)))
+    yield numbers(far), numbers(clockwise(opposite(far)))
+
+
+def of_mismatch(random):
+    """Cases for the mismatch sum: pairs, with the nearest point to B's first corner; and A refused, B, or both."""
+    for a, b in pairs_of_mismatch(random):
+        yield a, b, [b[0], b[1], NEAREST_LENGTH, 0, 0, (len(a) + len(b)) // 2, COMPARE_LENGTH]
+    lists = [SQUARE + [0], [4, 0, 0, 4], [0, 0, 4, -16001, 4, 4], [0, 0, 4, 0, 4, 4, 0, 0], STAR]
+    for k, faulty in enumerate(lists):
+        for a, b in ((faulty, CLOCKWISE), (SQUARE, faulty), (faulty, lists[k - 1])):
+            yield a, b, [1, 1, NEAREST_LENGTH, 0, 0, 9, COMPARE_LENGTH]
+
+
+def mismatch_length(number):
+    """The length of the result list of the mismatch sum, by the number of the case: mostly the right one."""
+    return OTHER_LENGTHS[number // 5 % 4] if number % 5 == 3 else MISMATCH_LENGTH
+
+
 def cases():
     random = Random(SEED)
+    for number, (a, b, given) in enumerate(chain(of_other_calls(random), of_mismatch(random))):
+        yield a, b, given + [mismatch_length(number)]
+
+
+def of_other_calls(random):
     yield from worked()
     for a, b in generated(random):
         a, b = numbers(a), numbers(b)
@@ -293,6 +397,10 @@ def kinds(text):
     side and feature."""
     words = text.split()
     call, first, second = words[0], words[1], words[2] if len(words) > 2 else ""
+    if call == "mismatch":
+        return (call, *words[1:4]) if first == "refused" else (call, "done")
+    if call == "c_mismatch":
+        return call, first, second
     if first == "refused" or call == "nearest":
         return (call, first, second) if first == "refused" else (call, first)
     if call == "c_compare":
@@ -310,9 +418,10 @@ def on_border(v, piece):
     return is_within(v, piece) and any(side_number(*edge(piece, i), v) == 0 for i in range(len(piece)))
 
 
-def check_coverage(given):
-    """The cases have what they are to have, whatever the seed."""
-    found = {kinds(text) for one in given for text in answers(*one)}
+def check_coverage(given, texts, accepted):
+    """The cases have what they are to have, whatever the seed. `accepted` has those of which no list is refused, each
+    with its texts."""
+    found = {kinds(text) for one in texts for text in one}
     expected = {("read", "counterclockwise"), ("read", "clockwise"), ("read_strict", "done")}
     expected |= {(call, "refused", str(n)) for call in ("read", "read_strict") for n in range(1, 7)}
     expected |= {("nearest", feature) for feature in ("within", "corner", "edge")}
@@ -324,23 +433,29 @@ def check_coverage(given):
     # Done and spent, the side, and the feature; none, only if spent; within, only if done and of A.
     expected |= {("c_compare", "0", kind, side, feature) for kind in "01" for side in "12" for feature in "12"}
     expected |= {("c_compare", "0", "1", "0", "-1"), ("c_compare", "0", "0", "1", "0")}
+    expected |= {("mismatch", "refused", side, str(n)) for n in range(1, 7) for side in "AB"} | {("mismatch", "done")}
+    expected |= {("c_mismatch", str(n), side) for n in range(1, 7) for side in "12"}
+    expected |= {("c_mismatch", "0", "0"), ("c_mismatch", "100", "0")}
     assert found == expected, found ^ expected
-    accepted = [one for one in given if default_refusal(one[0]) is None and default_refusal(one[1]) is None]
-    over_steps = {allowance - (len(a) + len(b)) // 2 for a, b, (*_, allowance, _) in accepted}
-    over_corners = {corner - len(a) // 2 for a, _, (_, _, _, corner, *_) in accepted}
-    over_length = {out_length - len(a) + 2 for a, _, (*_, out_length, _, _) in accepted}
+    over_steps = {allowance - (len(a) + len(b)) // 2 for a, b, (*_, allowance, _, _), _ in accepted}
+    over_corners = {corner - len(a) // 2 for a, _, (_, _, _, corner, *_), _ in accepted}
+    over_length = {out_length - len(a) + 2 for a, _, (*_, out_length, _, _, _), _ in accepted}
     assert min(over_steps) < -2 and {-1, 0, 1} <= over_steps and 0 in {one[2][5] for one in accepted}
     assert min(over_corners) < -2 and {-1, 0, 1} <= over_corners
     assert min(over_length) < -2 and {-1, 0, 1, 2} <= over_length
     points = [((x, y), as_held(corners(a))) for a, _, (x, y, *_) in given if default_refusal(a) is None]
     assert sum(on_border(v, piece) for v, piece in points) >= 10
     assert sum(is_within(v, piece) and not on_border(v, piece) for v, piece in points) >= 10
-    assert max(out_length for _, _, (*_, out_length, _, _) in given) <= LONGEST_LIST
+    assert max(out_length for _, _, (*_, out_length, _, _, _) in given) <= LONGEST_LIST
     assert max(nearest_length for _, _, (_, _, nearest_length, *_) in given) <= BEFORE_SIDES
-    lengths = {compare_length for _, _, (*_, compare_length) in given}
+    lengths = {compare_length for _, _, (*_, compare_length, _) in given}
     assert lengths >= {0, BEFORE_SIDES, COMPARE_LENGTH - 1, COMPARE_LENGTH, COMPARE_LENGTH + 1}
     assert max(lengths) == LONGEST_RESULT
-    answered = answered_places(given)
+    # Each length of the result list of the mismatch sum; the right one and a wrong one, with none, A, B, both refused.
+    assert {length for _, _, (*_, length) in given} == {MISMATCH_LENGTH, *OTHER_LENGTHS}
+    taken = [[default_refusal(one) is None for one in (a, b)] for a, b, _ in given]
+    assert len({(*sides, length == MISMATCH_LENGTH) for sides, (_, _, (*_, length)) in zip(taken, given)}) == 8
+    answered = answered_places(texts)
     # Done: within, a corner or an edge, of A's corner and of B's. Spent: none, a corner or an edge.
     found = {(places[0], places[16], places[25]) for places in answered}
     expected = {*product((0,), (0, 1, 2), (0, 1, 2)), *product((1,), (-1, 1, 2), (-1, 1, 2))}
@@ -359,10 +474,10 @@ def check_orientations(accepted):
     named; every feature of a clockwise list, as nearest to a point and in a comparison; removing refused by 6 for a
     clockwise list, and for no other."""
     found = set()
-    for a, b, given in accepted:
+    for a, b, given, texts in accepted:
         pair = corners(a), corners(b)
         turned = [is_clockwise(piece) for piece in pair]
-        nearest, removed, *_, compared = answers(a, b, given)[2:]
+        nearest, removed, *_, compared, _, _ = texts[2:]
         assert (removed == line("remove refused 6 0 2 list", *[FILL] * given[4])) == turned[0]
         _, kind, *number = nearest.split()[:3]
         if turned[0] and kind != "refused":
@@ -385,16 +500,57 @@ def check_orientations(accepted):
     assert found == expected, found ^ expected
 
 
-def answered_places(given):
+def to_border(v, piece):
+    """The squared distance from a point in a piece to its border, in whole units, rounded down."""
+    edges = [edge(piece, i) for i in range(len(piece))]
+    return min(UNITS * side_number(p, q, v) ** 2 // dot(minus(q, p), minus(q, p)) for p, q in edges)
+
+
+def mistaken(a, b):
+    """The mismatch sums of two accepted lists of corners that programs with a mistake give, by the mistake."""
+    both = [(gap.upper, gap.lower) for side in gaps(a, b) for gap in side]
+    down, roots = [UNITS * n // d for n, d in both], [isqrt(UNITS * UNITS * n // d) for n, d in both]
+    inside = [to_border(v, other) for piece, other in ((a, b), (b, a)) for v in piece if is_within(v, as_held(other))]
+    return {
+        "the distances unsquared": sum(roots),
+        "the first distance unsquared": roots[0] + sum(down[1:]),
+        "the exact sum brought down": int(UNITS * sum(fractions.Fraction(n, d) for n, d in both)),
+        "rounded up": sum(-(-UNITS * n // d) for n, d in both),
+        "rounded to the nearest": sum((2 * UNITS * n + d) // (2 * d) for n, d in both),
+        "whole square millimetres alone": sum(UNITS * (n // d) for n, d in both),
+        "1000 units": sum(1000 * n // d for n, d in both),
+        "A's corners alone": sum(down[:len(a)]),
+        "B's corners alone": sum(down[len(a):]),
+        "the greatest gap alone": max(down),
+        "corners inside measured to the border": sum(down + inside),
+        "1024 times the upper number in 64 bits": sum(UNITS * n % 2**64 // d for n, d in both),
+        "the same in 64 bits with a sign": sum(((UNITS * n + 2**63) % 2**64 - 2**63) // d for n, d in both),
+        "in doubles": sum(int(1024.0 * n / d) for n, d in both),
+    }
+
+
+def count_mistakes(accepted):
+    """How many mismatch sums would differ, for each mistake."""
+    counted = Counter()
+    for a, b, *_ in accepted:
+        pair = corners(a), corners(b)
+        check_mismatch(*pair)
+        found = mismatch_sum(*pair)
+        counted.update({mistake: int(other != found) for mistake, other in mistaken(*pair).items()})
+    assert min(counted.values()) >= 3, counted
+    return counted
+
+
+def answered_places(texts):
     """The result lists of the comparisons that answer."""
-    lists = [answers(*one)[-1].partition(" list ") for one in given]
+    lists = [text.partition(" list ") for one in texts for text in one if text.startswith("c_compare")]
     return [[int(n) for n in places.split()] for status, _, places in lists if status == "c_compare 0 0 0 0 0"]
 
 
-def table(given):
+def table(texts):
     """How many comparisons of each kind there are, by what A and B show: places 16 and 25 have the features."""
     words = {-1: "none", 0: "within", 1: "corner", 2: "edge"}
-    counted = Counter((places[0], places[16], places[25]) for places in answered_places(given))
+    counted = Counter((places[0], places[16], places[25]) for places in answered_places(texts))
     for (kind, a, b), count in sorted(counted.items()):
         yield f"{count:6} {'spent' if kind else 'done'}, A's {words[a]}, B's {words[b]}"
 
@@ -402,18 +558,26 @@ def table(given):
 def main():
     for text, said in STATED:
         assert text == said, (text, said)
+    for x, y, side, units in UNITS_OVER_EDGES:
+        assert mismatch_sum(*over_edge(x, y, side)) == units, (x, y, side)
+    for a, b, units in OVER_RHOMBUS:
+        assert mismatch_sum(corners(a), corners(b)) == units, (a, b)
     given = list(cases())
-    check_coverage(given)
+    texts = [answers(*one) for one in given]
+    accepted = [(*one, text) for one, text in zip(given, texts) if pair_refusal(*one[:2])[0] is None]
+    check_coverage(given, texts, accepted)
+    mistakes = count_mistakes(accepted)
     crate = Path(__file__).resolve().parent.parent / "crates" / "call_cases"
     crate.mkdir(exist_ok=True)
-    lines, printed = [len(given)], []
+    lines = [len(given)]
     for a, b, (x, y, nearest_length, corner, *others) in given:
         lines += [line(len(a), *a), line(len(b), *b)]
         lines.append(line(x, y, nearest_length, corner >> 32, corner % 2**32, *others))
-        printed += answers(a, b, [x, y, nearest_length, corner, *others])
     (crate / "stdin").write_bytes("".join(f"{one}\n" for one in lines).encode())
-    (crate / "stdout").write_bytes("".join(f"{one}\n" for one in printed).encode())
-    print(f"{len(given)} cases", *table(given), sep="\n")
+    (crate / "stdout").write_bytes("".join(f"{text}\n" for one in texts for text in one).encode())
+    print(f"{len(given)} cases", *table(texts), sep="\n")
+    for mistake, count in mistakes.items():
+        print(f"{count:6} of {len(accepted)} mismatch sums differ: {mistake}")
 
 
 if __name__ == "__main__":

@@ -20,3 +20,9 @@ pub fn compare(a: &[i32], b: &[i32], allowance: u32, result: &mut [i64]) {
     report::print_status(b"c_compare", status);
     report::print_result(result);
 }
+
+pub fn mismatch(a: &[i32], b: &[i32], result: &mut [i64]) {
+    let status = ravinebowl::ravinebowl_mismatch(a, b, result);
+    report::print_status(b"c_mismatch", status);
+    report::print_result(result);
+}

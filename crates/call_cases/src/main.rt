@@ -1,6 +1,6 @@
-// `read_outline`, `read_outline_strict`, `nearest_point`, `remove_corner` and the three C functions on generated cases
-// (`pairs` runs `compare`). The input has the number of cases, and for each the
-// length of A's list and its numbers, the length of B's list and its numbers, and eight numbers, which `Given`
+// `read_outline`, `read_outline_strict`, `nearest_point`, `remove_corner`, `mismatch` and the four C functions on
+// generated cases (`pairs` runs `compare`). The input has the number of cases, and for each the
+// length of A's list and its numbers, the length of B's list and its numbers, and nine numbers, which `Given`
 // names. Each call prints one line. `tests/call_cases.py` writes the input and, by another way, what is to be
 // printed.
 mod c_functions;
@@ -28,6 +28,7 @@ struct Given {
     out_length: u32,
     allowance: u32,
     compare_length: u32,
+    mismatch_length: u32,
     next: usize,
 }
 
@@ -40,6 +41,7 @@ fn read_given(s: &[u8], from: usize) -> Given {
     let out_length = case_input::read_number(s, corner_low.next);
     let allowance = case_input::read_number(s, out_length.next);
     let compare_length = case_input::read_number(s, allowance.next);
+    let mismatch_length = case_input::read_number(s, compare_length.next);
     Given {
         x: case_input::value(x),
         y: case_input::value(y),
@@ -48,7 +50,8 @@ fn read_given(s: &[u8], from: usize) -> Given {
         out_length: out_length.size,
         allowance: allowance.size,
         compare_length: compare_length.size,
-        next: compare_length.next,
+        mismatch_length: mismatch_length.size,
+        next: mismatch_length.next,
     }
 }
 
@@ -73,6 +76,12 @@ fn c_compare(a: &[i32], b: &[i32], allowance: u32, result_length: u32) {
     c_functions::compare(a, b, allowance, &mut result[..length]);
 }
 
+fn c_mismatch(a: &[i32], b: &[i32], result_length: u32) {
+    let length = case_input::at_most(LONGEST_RESULT, result_length);
+    let mut result = [RESULT_FILL; LONGEST_RESULT];
+    c_functions::mismatch(a, b, &mut result[..length]);
+}
+
 // Makes every call for one case.
 fn answer_case(a: &[i32], b: &[i32], given: Given) {
     let v = Corner {
@@ -85,6 +94,8 @@ fn answer_case(a: &[i32], b: &[i32], given: Given) {
     remove(a, given.corner, given.out_length);
     c_nearest(v, a, given.nearest_length);
     c_compare(a, b, given.allowance, given.compare_length);
+    rattle_calls::mismatch(a, b);
+    c_mismatch(a, b, given.mismatch_length);
 }
 
 // Answers the case at a place of the input. Gives the place after it.

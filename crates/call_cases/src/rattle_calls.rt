@@ -3,8 +3,11 @@
 //     read_strict COUNT X Y ..
 //     nearest FEATURE GAP X Y
 //     remove done list NUMBER ..
-// A refusal stands after the first word, as `refused NUMBER [PLACE..]`; in removing the list to write follows it.
+//     mismatch SUM
+// A refusal stands after the first word, as `refused NUMBER [PLACE..]`, with the side before the number where there are
+// two outlines; in removing the list to write follows it.
 use crate::report;
+use mismatch::MismatchAnswer;
 use nearest::NearestAnswer;
 use outline::Orientation;
 use outline::Verdict;
@@ -61,4 +64,13 @@ pub fn remove(a: &[i32], corner: usize, out: &mut [i32]) {
         Verdict::Refused(refusal) => report::print_refusal(refusal),
     }
     report::print_coordinates(out);
+}
+
+pub fn mismatch(a: &[i32], b: &[i32]) {
+    print::text(b"mismatch");
+    match calls::mismatch(a, b) {
+        MismatchAnswer::Summed(sum) => report::print_natural(sum),
+        MismatchAnswer::Refused(refusal) => report::print_refusal(refusal),
+    }
+    print::text(b"\n");
 }

@@ -7,7 +7,7 @@ use outline::Refusal;
 use plane::Corner;
 use text::output::Text;
 
-fn print_natural(n: u64) {
+pub fn print_natural(n: u64) {
     print::text(b" ");
     print::natural(n);
 }

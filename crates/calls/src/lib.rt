@@ -2,6 +2,8 @@
 // What a call promises it says twice: as an equation with a definition that computes, and in the words of the rules of
 // docs/SPECIFICATION.md (`rules`), from which a caller reads off what holds. Each of the two determines the result.
 use hausdorff::Comparison;
+use hausdorff::PairVerdict;
+use mismatch::MismatchAnswer;
 use nearest::NearestAnswer;
 use nearest::POINT_OUT_OF_RANGE;
 use outline::EitherReading;
@@ -25,8 +27,10 @@ ghost use Rattle.edit.specs.Removal.{IsRemoval};
 ghost use Rattle.edit.specs.code.Removal.{removalVerdict, listAfter};
 ghost use Rattle.nearest.specs.Call.{IsNearestAnswer};
 ghost use Rattle.nearest.specs.code.Call.{nearestAnswer};
-ghost use Rattle.hausdorff.specs.code.Call.{comparison};
+ghost use Rattle.hausdorff.specs.code.Call.{checkPair, comparison};
 ghost use Rattle.hausdorff.specs.Call.{IsComparison};
+ghost use Rattle.mismatch.specs.Call.{IsMismatchAnswer};
+ghost use Rattle.mismatch.specs.code.Call.{mismatchAnswer};
 
 // Reads the outline that the list `s` gives: x and y of corner 0, then of corner 1, and so on, in either orientation.
 // The outline is read as it is held, with the orientation of the list beside it: of a clockwise list corner 0, and then
@@ -80,8 +84,21 @@ pub fn nearest_point(v: Corner, s: &[i32]) -> NearestAnswer
         });
     }
     let orientation = checks::orientation(s);
-    let nearest = projection::nearest(corners::held(s, orientation), v);
+    let nearest = projection::nearest(s, orientation, v);
     NearestAnswer::Found(answers::given_nearest(orientation, corners::count(s), nearest))
+}
+
+// Checks two lists: refusals 1 to 6 for A, then 1 to 6 for B. Finds the orientations of lists that are taken.
+fn check_pair(a: &[i32], b: &[i32]) -> PairVerdict
+    ensures { λ r. ⌜ r ≡ checkPair (now (a .entry)) (now (b .entry)) ⌝ }
+{
+    if let Verdict::Refused(refusal) = checks::check_either(a, RefusedSide::Of(Side::A)) {
+        return PairVerdict::Refused(refusal);
+    }
+    if let Verdict::Refused(refusal) = checks::check_either(b, RefusedSide::Of(Side::B)) {
+        return PairVerdict::Refused(refusal);
+    }
+    PairVerdict::Taken(checks::orientation(a), checks::orientation(b))
 }
 
 // Compares the outlines that the lists `a` and `b` give, each in either orientation, in at most `allowance` steps.
@@ -91,13 +108,28 @@ pub fn compare(a: &[i32], b: &[i32], allowance: u32) -> Comparison
     ensures answer { λ r. ⌜ r ≡ comparison (now (a .entry)) (now (b .entry)) allowance ⌝ }
     ensures rules { λ r. ⌜ IsComparison (now (a .entry)) (now (b .entry)) allowance r ⌝ }
 {
-    if let Verdict::Refused(refusal) = checks::check_either(a, RefusedSide::Of(Side::A)) {
-        return Comparison::Refused(refusal);
+    match check_pair(a, b) {
+        PairVerdict::Refused(refusal) => Comparison::Refused(refusal),
+        PairVerdict::Taken(of_a, of_b) => {
+            let report = comparing::compare(a, of_a, b, of_b, allowance);
+            Comparison::Reported(report)
+        }
     }
-    if let Verdict::Refused(refusal) = checks::check_either(b, RefusedSide::Of(Side::B)) {
-        return Comparison::Refused(refusal);
+}
+
+// The mismatch sum of the outlines that the lists `a` and `b` give, each in either orientation. The squared distance of
+// every corner of each to the other piece, 0 in it, is brought down to a whole number of 1/1024 square millimetres, and
+// these are added.
+// Refusals as in `compare`.
+pub fn mismatch(a: &[i32], b: &[i32]) -> MismatchAnswer
+    ensures answer { λ r. ⌜ r ≡ mismatchAnswer (now (a .entry)) (now (b .entry)) ⌝ }
+    ensures rules { λ r. ⌜ IsMismatchAnswer (now (a .entry)) (now (b .entry)) r ⌝ }
+{
+    match check_pair(a, b) {
+        PairVerdict::Refused(refusal) => MismatchAnswer::Refused(refusal),
+        PairVerdict::Taken(of_a, of_b) => {
+            let sum = summing::mismatch_sum(a, of_a, b, of_b);
+            MismatchAnswer::Summed(sum)
+        }
     }
-    let of_a = checks::orientation(a);
-    let of_b = checks::orientation(b);
-    Comparison::Reported(comparing::compare(a, of_a, b, of_b, allowance))
 }

@@ -1,4 +1,5 @@
--- Rules 9.4 to 9.6: the numbers that a result list holds after a call, place by place.
+-- Rules 9.4 to 9.6 and 9.10: the numbers that a result list holds after a call, place by place.
+use Prim.Native.Nat.{ℕ}
 use mathlib.Core.List.{List, [], _∷_, _++_}
 use lib.IntN.{ℤ, pos, negsuc}
 use lib.ListN.{replicate}
@@ -90,3 +91,7 @@ ofSide s r = ofWorst (reportedOf s r)
 -- rule 9.5, of what comparing reports: places 0 to 13 of both outlines together, 14 to 22 of A, and 23 to 31 of B
 abbrev pub ofReport : Report → List ℤ
 ofReport r = ofOverall r ++ ofSide A r ++ ofSide B r
+
+-- rule 9.10, of a mismatch sum: the sum
+abbrev pub ofSum : ℕ → List ℤ
+ofSum m = pos m ∷ []

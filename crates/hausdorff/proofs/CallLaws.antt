@@ -1,12 +1,12 @@
 -- The call that compares, as its callers see it.
 --     pair-refused, pair-taken    the checks refuse with the refusal of the first condition that applies, and take two
---                                 accepted outlines
+--                                 lists with the orientations with which they are accepted
 --     pair-fault                  the first condition that applies is A's, or A is accepted and it is B's
 --     compare-refuses             the call refuses exactly with the refusal of the first condition that applies
 --     is-comparison               what the call gives is as rule 7.4 lays down: the refusal of the first condition that
 --                                 applies, or else a report that obeys the law
 --     both-accepted               the pair of two accepted outlines
---     held-pair                   and of two that are accepted with orientations, as held
+--     held-pair, held-polygons    and of two that are accepted with orientations, as held, which are polygons
 --     Reports, reported-means     where it is a report both lists are accepted, and it is one that obeys the law, with its
 --                                 corners and edges named by the lists as given
 --     comparison-unique           so the call gives the only one that is as rule 7.4 lays down
@@ -15,10 +15,10 @@
 --     clearance-same              done reports with the same gap, as a value, have the same clearance
 --     comparison-swap             a done report of B with A has the same gap, as a value
 --     clearance-swap, sides-swap    so the same clearance; and the gap of A's side is that of B's
--- For the code, by what the checks of the lists give:
---     call-refused-a, call-refused-b  A's list is refused; A's is taken and B's refused
---     call-reported                   both are taken: what the call gives of the steps' report
---     call-promises                   what it gives has both parts of its contract
+-- For the code:
+--     checkPair-refused-a, checkPair-refused-b, checkPair-taken    what the checks of both lists find, by what those of each give
+--     call-refused, call-reported    what the call gives where they refuse, and of the steps' report where they take
+--     call-promises               what it gives has both parts of its contract
 use Prim.Native.Nat.{ℕ, _+_, _<_}
 use mathlib.Core.Path.{_≡_, refl, sym, ap, _∙_}
 use mathlib.Core.Logic.{_↔_, Iff·trans, _⊎_, ⊎-map}
@@ -40,27 +40,30 @@ use Rattle.outline.specs.Convex.{Accepted}
 use Rattle.outline.specs.Corners.{corners}
 use Rattle.outline.specs.Orientation.{AcceptedAs}
 use Rattle.outline.specs.code.Either.{orientationOf, heldCorners, eitherChecks, checkEither}
+use Rattle.outline.specs.code.Checks.{first}
 use Rattle.outline.specs.Refusal.{FirstFault}
 use Rattle.outline.proofs.EdgeLaws.{accepted-polygon}
 use Rattle.outline.proofs.EitherLaws.{accepted-held, accepted-orientation, either-decide, none-either}
 use Rattle.outline.proofs.OrientationLaws.{held-length}
 use Rattle.outline.proofs.ChecksLaws.{append-stops, append-goes-on}
-use Rattle.outline.proofs.ConditionLaws.{AllDecide, first-refused, first-taken}
+use Rattle.outline.proofs.ConditionLaws.{AllDecide, NoneApplies, first-refused, first-taken}
 use Rattle.outline.proofs.ConditionLaws.{decide-append, none-append, fault-append}
 use Rattle.hausdorff.specs.declared.Done.{Done}
 use Rattle.hausdorff.specs.declared.Spent.{Spent}
 use Rattle.hausdorff.specs.declared.Report.{Report}
 use Rattle.hausdorff.specs.declared.Report.the-variants as Report
+use Rattle.hausdorff.specs.declared.PairVerdict.{PairVerdict}
+use Rattle.hausdorff.specs.declared.PairVerdict.the-variants as PairVerdict
 use Rattle.hausdorff.specs.declared.Comparison.{Comparison}
 use Rattle.hausdorff.specs.declared.Comparison.the-variants.{Refused, Reported}
-use Rattle.hausdorff.specs.Pair.{both}
+use Rattle.hausdorff.specs.Pair.{both, bothOrientations}
 use Rattle.hausdorff.specs.Given.{givenDone, givenReport}
 use Rattle.hausdorff.specs.code.Pair.{AcceptedPair, Polygons}
 use Rattle.hausdorff.specs.code.Report.{report}
 use Rattle.hausdorff.specs.Law.{OfDone, Law}
 use Rattle.hausdorff.specs.Call.{pairConditions, heldPair, IsComparison}
-use Rattle.hausdorff.specs.code.Call.{pairChecks, checkPair, orientations, pairOf, reportFor, comparisonFor}
-use Rattle.hausdorff.specs.code.Call.{comparison}
+use Rattle.hausdorff.specs.code.Call.{pairChecks, pairVerdictFor, checkPair, orientations, pairOf, reportFor}
+use Rattle.hausdorff.specs.code.Call.{comparisonFor, comparison}
 use Rattle.hausdorff.specs.Call.{refused, reported}
 use Rattle.hausdorff.proofs.HausdorffLaws.{directed-unique, hausdorff-unique, hausdorff-swap}
 use Rattle.hausdorff.proofs.Law.{law, law-spent, law-done, law-unique}
@@ -75,19 +78,39 @@ module _ (s t : List ℤ) where
       decide-append (eitherChecks (Of A) s) (eitherChecks (Of B) t) (eitherConditions (Of A) s) (eitherConditions (Of B) t)
       (either-decide (Of A) s) (either-decide (Of B) t)
 
-  pub pair-refused : (r : Refusal) → (checkPair s t ≡ Verdict.Refused r) ↔ FirstFault (pairConditions s t) r
+  pub pair-refused : (r : Refusal) → (checkPair s t ≡ PairVerdict.Refused r) ↔ FirstFault (pairConditions s t) r
   unfolding checkPair
-  pair-refused = first-refused (pairChecks s t) (pairConditions s t) decide
+  pair-refused r =
+      Iff·trans (by-first (first (pairChecks s t))) (first-refused (pairChecks s t) (pairConditions s t) decide r)
+    where
+      by-first : (v : Verdict) → (pairVerdictFor s t v ≡ PairVerdict.Refused r) ↔ (v ≡ Verdict.Refused r)
+      by-first Verdict.Taken = (λ e. cc, λ e. cc)
+      by-first (Verdict.Refused q) = (λ e. cc, λ e. cc)
 
-  pub pair-taken : (checkPair s t ≡ Verdict.Taken)
+  none-of-both : NoneApplies (pairConditions s t)
       ↔ (AcceptedAs (orientationOf (corners s)) s × AcceptedAs (orientationOf (corners t)) t)
+  none-of-both = Iff·trans (none-append (eitherConditions (Of A) s) (eitherConditions (Of B) t)) (
+    λ (none-a, none-b). (none-either (Of A) s .0 none-a, none-either (Of B) t .0 none-b),
+    λ (ok-a, ok-b). (none-either (Of A) s .1 ok-a, none-either (Of B) t .1 ok-b),
+  )
+
+  -- the first three corners of an accepted list tell its orientation
+  pub pair-taken : (o q : Orientation) → (checkPair s t ≡ PairVerdict.Taken o q) ↔ (AcceptedAs o s × AcceptedAs q t)
   unfolding checkPair
-  pair-taken =
-      Iff·trans (first-taken (pairChecks s t) (pairConditions s t) decide)
-      (Iff·trans (none-append (eitherConditions (Of A) s) (eitherConditions (Of B) t)) (
-        λ (none-a, none-b). (none-either (Of A) s .0 none-a, none-either (Of B) t .0 none-b),
-        λ (ok-a, ok-b). (none-either (Of A) s .1 ok-a, none-either (Of B) t .1 ok-b),
-      ))
+  pair-taken o q = Iff·trans (by-first (first (pairChecks s t))) (
+    λ (takes, of-a, of-b). rw (of-a, of-b) at (none-of-both .0 (taken .0 takes)),
+    λ (ok-a, ok-b).
+        let of-a = accepted-orientation o s ok-a in let of-b = accepted-orientation q t ok-b in
+        (taken .1 (none-of-both .1 (rw of-a ok-a, rw of-b ok-b)), of-a, of-b),
+  )
+    where
+      taken : (first (pairChecks s t) ≡ Verdict.Taken) ↔ NoneApplies (pairConditions s t)
+      taken = first-taken (pairChecks s t) (pairConditions s t) decide
+
+      by-first : (v : Verdict) → (pairVerdictFor s t v ≡ PairVerdict.Taken o q)
+          ↔ ((v ≡ Verdict.Taken) × (orientationOf (corners s) ≡ o) × (orientationOf (corners t) ≡ q))
+      by-first Verdict.Taken = (λ e. (refl, cc, cc), λ (_, of-a, of-b). λ i. PairVerdict.Taken (of-a i) (of-b i))
+      by-first (Verdict.Refused r) = (λ e. (cc, cc, cc), λ h. cc)
 
   -- that is: a refusal of A's list, or A's list is accepted and it is one of B's
   pub pair-fault : (r : Refusal) → FirstFault (pairConditions s t) r
@@ -98,12 +121,34 @@ module _ (s t : List ℤ) where
     ⊎-map (λ fault. fault) (λ (ok, fault). (none-either (Of A) s .1 ok, fault)),
   )
 
+  -- for the code, by what the checks of A's list give, and those of B's
+  module _ {v : Verdict} (is-a : v ≡ checkEither (Of A) s) where
+    pub checkPair-refused-a : {r : Refusal} → v ≡ Verdict.Refused r → PairVerdict.Refused r ≡ checkPair s t
+    unfolding checkPair checkEither
+    checkPair-refused-a not-taken =
+        sym (ap (pairVerdictFor s t)
+        (append-stops (eitherChecks (Of A) s) (eitherChecks (Of B) t) (sym is-a ∙ not-taken)))
+
+    module _ (taken-a : v ≡ Verdict.Taken) {w : Verdict} (is-b : w ≡ checkEither (Of B) t) where
+      by-b : {u : Verdict} → w ≡ u → pairVerdictFor s t u ≡ checkPair s t
+      unfolding checkPair checkEither
+      by-b is =
+          sym (ap (pairVerdictFor s t)
+          (append-goes-on (eitherChecks (Of A) s) (eitherChecks (Of B) t) (sym is-a ∙ taken-a) ∙ sym is-b ∙ is))
+
+      pub checkPair-refused-b : {r : Refusal} → w ≡ Verdict.Refused r → PairVerdict.Refused r ≡ checkPair s t
+      checkPair-refused-b not-taken = by-b not-taken
+
+      pub checkPair-taken : {o q : Orientation} → w ≡ Verdict.Taken → o ≡ orientationOf (corners s)
+          → q ≡ orientationOf (corners t) → PairVerdict.Taken o q ≡ checkPair s t
+      checkPair-taken taken-b of-a of-b = (λ i. PairVerdict.Taken (of-a i) (of-b i)) ∙ by-b taken-b
+
 module _ (s t : List ℤ) (o q : Orientation) (ok-a : AcceptedAs o s) (ok-b : AcceptedAs q t) where
   -- lists that are accepted with orientations are accepted as held
   pub held-pair : AcceptedPair (heldPair o q s t)
   held-pair = both-accepted _ _ (accepted-held ok-a) (accepted-held ok-b)
 
-  held-polygons : Polygons (heldPair o q s t)
+  pub held-polygons : Polygons (heldPair o q s t)
   held-polygons r = accepted-polygon (held-pair r)
 
 -- what a report tells: both lists are accepted, the law holds of a report of the outlines as held, and this is that
@@ -116,26 +161,27 @@ pub record Reports (s t : List ℤ) (allowance : ℕ) (q : Report) : Type 0 wher
   pub named : q ≡ givenReport (pairOf s t) (orientations s t) as-held
 
 module _ (s t : List ℤ) (allowance : ℕ) where
-  obeys : AcceptedAs (orientationOf (corners s)) s → AcceptedAs (orientationOf (corners t)) t
-      → Law (pairOf s t) (orientations s t) allowance (report (pairOf s t) (orientations s t) allowance)
-  obeys ok-a ok-b = law _ _ (held-pair s t _ _ ok-a ok-b) allowance
+  obeys : (o q : Orientation) → AcceptedAs o s → AcceptedAs q t
+      → Law (heldPair o q s t) (bothOrientations o q) allowance (report (heldPair o q s t) (bothOrientations o q) allowance)
+  obeys o q ok-a ok-b = law _ _ (held-pair s t o q ok-a ok-b) allowance
 
   -- it is refused exactly with the refusal of the first condition that applies
   pub compare-refuses : (r : Refusal) → (comparison s t allowance ≡ Refused r) ↔ FirstFault (pairConditions s t) r
   compare-refuses r = Iff·trans (by-checks (checkPair s t)) (pair-refused s t r)
     where
-      by-checks : (v : Verdict) → (comparisonFor s t allowance v ≡ Refused r) ↔ (v ≡ Verdict.Refused r)
-      by-checks Verdict.Taken = (λ e. cc, λ e. cc)
-      by-checks (Verdict.Refused q) = (λ e. cc, λ e. cc)
+      by-checks : (v : PairVerdict) → (comparisonFor s t allowance v ≡ Refused r) ↔ (v ≡ PairVerdict.Refused r)
+      by-checks (PairVerdict.Taken o q) = (λ e. cc, λ e. cc)
+      by-checks (PairVerdict.Refused q) = (λ e. cc, λ e. cc)
 
   -- some condition applies, or both lists are accepted
   pub is-comparison : IsComparison s t allowance (comparison s t allowance)
   is-comparison = go (checkPair s t) refl
     where
-      go : (v : Verdict) → checkPair s t ≡ v → IsComparison s t allowance (comparisonFor s t allowance v)
-      go (Verdict.Refused r) refuses = refused r (pair-refused s t r .0 refuses) refl
-      go Verdict.Taken takes =
-          let (ok-a, ok-b) = pair-taken s t .0 takes in reported _ _ _ ok-a ok-b (obeys ok-a ok-b) refl
+      go : (v : PairVerdict) → checkPair s t ≡ v → IsComparison s t allowance (comparisonFor s t allowance v)
+      go (PairVerdict.Refused r) refuses = refused r (pair-refused s t r .0 refuses) refl
+      go (PairVerdict.Taken o q) takes =
+          let (ok-a, ok-b) = pair-taken s t o q .0 takes in
+          reported o q _ ok-a ok-b (obeys o q ok-a ok-b) refl
 
   pub reported-means : (q : Report) → IsComparison s t allowance (Reported q) → Reports s t allowance q
   reported-means q (refused r first is) = absurd (let z : _≡_ {A = ℕ} 0 1 = cc in omega arith)
@@ -160,9 +206,9 @@ module _ (s t : List ℤ) (allowance : ℕ) where
   reports-unique : (q : Report) → Reports s t allowance q → Reported q ≡ comparison s t allowance
   reports-unique q tells =
       let ok-a = tells .accepted-a in let ok-b = tells .accepted-b in
-      rw (pair-taken s t .1 (ok-a, ok-b), tells .named)
+      rw (pair-taken s t _ _ .1 (ok-a, ok-b), tells .named)
       (ap (λ (x : Report). Reported (givenReport (pairOf s t) (orientations s t) x))
-      (law-unique (held-polygons s t _ _ ok-a ok-b) (tells .lawful) (obeys ok-a ok-b)))
+      (law-unique (held-polygons s t _ _ ok-a ok-b) (tells .lawful) (obeys _ _ ok-a ok-b)))
 
   -- so each case leaves one result
   pub comparison-unique : {result : Comparison} → IsComparison s t allowance result → result ≡ comparison s t allowance
@@ -174,28 +220,13 @@ module _ (s t : List ℤ) (allowance : ℕ) where
       → (result ≡ comparison s t allowance) × IsComparison s t allowance result
   call-promises is = (is, rw is is-comparison)
 
-  -- what the checks find decides
-  by-verdict : {v : Verdict} → checkPair s t ≡ v → comparisonFor s t allowance v ≡ comparison s t allowance
-  by-verdict is = ap (comparisonFor s t allowance) (sym is)
+  module _ {v : PairVerdict} (found : v ≡ checkPair s t) where
+    pub call-refused : {r : Refusal} → v ≡ PairVerdict.Refused r → Refused r ≡ comparison s t allowance
+    call-refused is = ap (comparisonFor s t allowance) (sym is ∙ found)
 
-  module _ {v : Verdict} (is-a : v ≡ checkEither (Of A) s) where
-    pub call-refused-a : {r : Refusal} → v ≡ Verdict.Refused r → Refused r ≡ comparison s t allowance
-    unfolding checkPair checkEither
-    call-refused-a not-taken =
-        by-verdict (append-stops (eitherChecks (Of A) s) (eitherChecks (Of B) t) (sym is-a ∙ not-taken))
-
-    module _ (taken-a : v ≡ Verdict.Taken) {w : Verdict} (is-b : w ≡ checkEither (Of B) t) where
-      by-b : {u : Verdict} → w ≡ u → checkPair s t ≡ u
-      unfolding checkPair checkEither
-      by-b is = append-goes-on (eitherChecks (Of A) s) (eitherChecks (Of B) t) (sym is-a ∙ taken-a) ∙ sym is-b ∙ is
-
-      pub call-refused-b : {r : Refusal} → w ≡ Verdict.Refused r → Refused r ≡ comparison s t allowance
-      call-refused-b not-taken = by-verdict (by-b not-taken)
-
-      pub call-reported : {o q : Orientation} {r : Report} → w ≡ Verdict.Taken → o ≡ orientationOf (corners s)
-          → q ≡ orientationOf (corners t) → r ≡ reportFor o q s t allowance → Reported r ≡ comparison s t allowance
-      call-reported taken-b found-a found-b is =
-          ap Reported (is ∙ λ i. reportFor (found-a i) (found-b i) s t allowance) ∙ by-verdict (by-b taken-b)
+    pub call-reported : {o q : Orientation} {r : Report} → v ≡ PairVerdict.Taken o q → r ≡ reportFor o q s t allowance
+        → Reported r ≡ comparison s t allowance
+    call-reported is made = ap Reported made ∙ ap (comparisonFor s t allowance) (sym is ∙ found)
 
 -- a spent report tells that the allowance is below the number of corners of both
 pub spent-report-below : (s t : List ℤ) (k : ℕ) (p : Spent) → IsComparison s t k (Reported (Report.Spent p))

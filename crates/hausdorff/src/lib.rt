@@ -2,6 +2,7 @@
 // distance, and `proofs/` shows that the steps find it (`proofs/Law.antt`).
 use integers::fraction::Fraction;
 use nearest::Feature;
+use outline::Orientation;
 use outline::Refusal;
 use outline::Side;
 use plane::Point;
@@ -60,6 +61,12 @@ pub struct Done {
 pub enum Report {
     Spent(Spent),
     Done(Done),
+}
+
+// What the checks of two lists find: the orientation of A's list and of B's, or the first refusal.
+pub enum PairVerdict {
+    Taken(Orientation, Orientation),
+    Refused(Refusal),
 }
 
 // What comparing two lists gives. Being spent is no refusal.

@@ -6,7 +6,8 @@
 --     then, order-by-parts   the key: two numbers' high parts and then their low parts, of 32 bits, decide as the
 --                            numbers do
 --     product-parts          the parts of a product, as `product` computes them
---     low-fits, high-fits    what it computes fits 64 bits
+--     carry-fits             the product of two numbers of 32 bits fits 64 bits, with room for a carry
+--     low-fits, high-fits    so what it computes fits
 use mathlib.Core.Path.{_≡_, refl, subst}
 use mathlib.Core.Logic.{_↔_}
 use Prim.Native.Nat.{ℕ, _+_, _-_, _*_, _/_, _%_, _^_, _<_}
@@ -80,7 +81,7 @@ order-by-parts m n = by-high (order (m / 2 ^ 32) (n / 2 ^ 32)) (order-means _ _)
     by-high Greater h = order-unique Greater m n (omega arith)
 
 -- The product of two numbers of 32 bits fits 64 bits, with room for a carry.
-carry-fits : {m n : ℕ} → m < 2 ^ 32 → n < 2 ^ 32 → m * n + 2 ^ 32 < 2 ^ 64
+pub carry-fits : {m n : ℕ} → m < 2 ^ 32 → n < 2 ^ 32 → m * n + 2 ^ 32 < 2 ^ 64
 carry-fits {m} {n} hm hn = omega (arith, mul-le-mul-right n hm)
 
 -- The low part's share of a product fits,

@@ -1,6 +1,6 @@
 -- Whole numbers, for the proofs of every crate: laws of the ring and the order, the greatest of finitely many, two
--- tools that prove by computation, tests and what they mean, bounds on machine arithmetic, exact fractions and
--- square roots, rounded to whole numbers.
+-- tools that prove by computation, tests and what they mean, bounds on machine arithmetic, exact fractions
+-- and their sums, square roots and fractions rounded to whole numbers.
 pub mod Ring
 pub mod Order
 pub mod Greatest
@@ -13,3 +13,4 @@ pub mod Machine
 pub mod FractionLaws
 pub mod FractionOrder
 pub mod RootLaws
+pub mod UnitsLaws

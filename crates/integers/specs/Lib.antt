@@ -3,4 +3,5 @@ pub mod Size
 pub mod Equal
 pub mod Fraction
 pub mod Root
+pub mod Units
 pub mod code

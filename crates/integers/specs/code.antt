@@ -1,3 +1,4 @@
 -- For code and proofs alone.
 pub mod Fraction
 pub mod Root
+pub mod Units

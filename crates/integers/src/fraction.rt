@@ -2,6 +2,7 @@
 ghost use mathlib.Core.Path.{_≡_};
 ghost use Prim.Native.Nat.{_*_, _/_, _%_, _^_, _<_};
 ghost use Rattle.integers.specs.code.Fraction.{order, Bounded};
+ghost use Rattle.integers.specs.code.Units.{wholeUnits};
 
 // An upper number over a lower number. It is never reduced.
 pub struct Fraction {
@@ -62,4 +63,17 @@ pub fn compare(a: Fraction, b: Fraction) -> Order
         Order::Equal => compare_numbers(p.low, q.low),
         Order::Greater => Order::Greater,
     }
+}
+
+// The fraction in whole units, of which `units` make 1, rounded down. `units` times the upper number need not fit 64 bits:
+// the whole part and the remainder are taken apart.
+pub fn whole_units(g: Fraction, units: u64) -> u64
+    requires { ⌜ Bounded g ⌝ }
+    requires { ⌜ units < 2 ^ 32 ⌝ }
+    requires { ⌜ wholeUnits units g < 2 ^ 64 ⌝ }
+    ensures { λ r. ⌜ r ≡ wholeUnits units g ⌝ }
+{
+    let whole = g.upper / g.lower;
+    let rest = g.upper % g.lower;
+    whole * units + rest * units / g.lower
 }

@@ -1,5 +1,5 @@
 -- What is made of the values at 0, 1, .. below a number.
-use Prim.Native.Nat.{ℕ, zero, suc}
+use Prim.Native.Nat.{ℕ, zero, suc, _+_}
 use mathlib.Core.Bool.{Bool, true, _&&_}
 use mathlib.Core.List.{List, [], _++_}
 
@@ -15,3 +15,7 @@ joined f n = fold _++_ [] f n
 -- the test passes at 0, 1, .. below n
 abbrev pub all : (ℕ → Bool) → ℕ → Bool
 all test n = fold _&&_ true test n
+
+-- the sum of f 0, f 1, .. below n
+abbrev pub sum : (ℕ → ℕ) → ℕ → ℕ
+sum f n = fold _+_ 0 f n

@@ -28,16 +28,13 @@ use Rattle.plane.proofs.Tests.{inRange-true}
 use Rattle.outline.specs.declared.Place.the-variants.{Nowhere}
 use Rattle.outline.specs.declared.Orientation.{Orientation}
 use Rattle.outline.specs.declared.Orientation.the-variants.{Counterclockwise}
-use Rattle.outline.specs.declared.Outline.{Outline}
 use Rattle.outline.specs.declared.Refusal.{Refusal}
 use Rattle.outline.specs.declared.RefusedSide.the-variants.{NoSide}
 use Rattle.outline.specs.declared.Verdict.{Verdict}
 use Rattle.outline.specs.declared.Verdict.the-variants as Verdict
 use Rattle.outline.specs.code.Checks.{refuseIf, first}
 use Rattle.outline.specs.Conditions.{eitherConditions, AcceptedList}
-use Rattle.outline.specs.code.Held.{IsOutline}
-use Rattle.outline.specs.Corners.{corners, held}
-use Rattle.outline.specs.code.Held.{cornersOf}
+use Rattle.outline.specs.Corners.{corners}
 use Rattle.outline.specs.Orientation.{asHeld, AcceptedAs}
 use Rattle.outline.specs.code.Either.{orientationOf, heldCorners, eitherChecks, checkEither}
 use Rattle.outline.specs.code.Polygon.{Polygon}
@@ -48,7 +45,6 @@ use Rattle.outline.proofs.ConditionLaws.{AllDecide, first-refused, first-taken,
 use Rattle.outline.proofs.ConditionLaws.{NoneApplies, nowhere-plain, test-decides}
 use Rattle.outline.proofs.EitherLaws.{accepted-held, strict-either, accepted-orientation, either-decide, none-either}
 use Rattle.outline.proofs.EitherLaws.{checked-accepted}
-use Rattle.outline.proofs.HeldLaws.{cornersOf-held, held-outline}
 use Rattle.outline.proofs.OrientationLaws.{held-length}
 use Rattle.nearest.specs.declared.NearestAnswer.{NearestAnswer}
 use Rattle.nearest.specs.declared.NearestAnswer.the-variants.{Found, Refused}
@@ -208,31 +204,25 @@ module _ (v : Corner) where
             → Refused (refusal (pointOutOfRange v) Nowhere) ≡ nearestAnswer v s
         call-out-of-range out = sym (answer-refused _ .1 (by-point ∙ rw out))
 
-        module _ {o : Orientation} {l : Outline} (found-is : o ≡ orientationOf (corners s))
-            (holds : l ≡ held (asHeld o (corners s))) where
-          -- what is held is the outline of the list
-          is-held : l ≡ held (heldCorners s)
-          is-held = rw found-is at holds
+        module _ {o : Orientation} (found-is : o ≡ orientationOf (corners s)) where
+          -- the search is in the outline as held
+          held-nearest : {a : NearestPoint} → a ≡ nearest (asHeld o (corners s)) v → a ≡ nearest (heldCorners s) v
+          held-nearest is = rw found-is at is
 
-          held-nearest : {a : NearestPoint} → a ≡ nearest (cornersOf l) v → a ≡ nearest (heldCorners s) v
-          held-nearest is =
-              is ∙ ap (λ (m : Outline). nearest (cornersOf m) v) is-held
-              ∙ ap (λ (cs : List Corner). nearest cs v) (cornersOf-held (heldCorners s))
-
-          pub call-asks : not (inRange v) ≡ false → IsOutline l × InRange v
+          pub call-asks : not (inRange v) ≡ false → AcceptedAs o s × InRange v
           call-asks in-range = (
-            rw is-held (held-outline (heldCorners s) (accepted-held accepted)),
+            rw found-is accepted,
             test-stable (inRange v) (inRange-true v) (test-false (not (inRange v)) not-inRange .0 in-range),
           )
 
           -- the feature is one of the list's
-          pub call-below : {a : NearestPoint} {n : ℕ} → a ≡ nearest (cornersOf l) v → n ≡ length (corners s)
+          pub call-below : {a : NearestPoint} {n : ℕ} → a ≡ nearest (asHeld o (corners s)) v → n ≡ length (corners s)
               → FeatureBelow n (a .feature)
           call-below {a} is counted =
               rw (counted, ← held-length (orientationOf (corners s)) (corners s))
               (answers-below (answers-iff (polygon (orientationOf (corners s)) accepted) v a .1 (held-nearest is)))
 
-          pub call-found : not (inRange v) ≡ false → {a b : NearestPoint} {n : ℕ} → a ≡ nearest (cornersOf l) v
+          pub call-found : not (inRange v) ≡ false → {a b : NearestPoint} {n : ℕ} → a ≡ nearest (asHeld o (corners s)) v
               → n ≡ length (corners s) → b ≡ givenNearest o n a → Found b ≡ nearestAnswer v s
           call-found in-range is counted named = sym (answer-found _ .1 (
             by-point ∙ rw in-range,

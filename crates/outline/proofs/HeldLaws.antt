@@ -3,7 +3,6 @@
 --     held-corner, held-unused     corner i of the list is in place i; the places after the corners are zero
 --     cornersOf-held               the corners of a held list are the list
 --     held-outline                 an accepted list, held, is an outline
---     length-cornersOf, cornersOf-corner    the corners of a value: the count says how many, and corner i is in place i
 --     Filling, fill-start, fill-on, fill-end    the loop that puts the corners of a list into the places: its
 --                                  invariant, at the start, after a turn and at the end
 --     length-mapped                for a value that a function is handed: what is known of its places is their
@@ -16,7 +15,7 @@ use native.Mathlib.Numerals.{add-one}
 use native.Mathlib.Omega.{arith}
 use lib.ListN.{length, getD, set, take, replicate, length-append, length-map, length-replicate, getD-replicate}
 use lib.ListN.{List·getD-append}
-use lib.Seq.{getD-append-add, take-append-seam, length-take-le, getD-take, set-at, take-suc, take-length}
+use lib.Seq.{getD-append-add, take-append-seam, length-take-le, set-at, take-suc, take-length}
 use Rattle.plane.specs.declared.Corner.{Corner}
 use Rattle.outline.specs.declared.Outline.{Outline}
 use Rattle.outline.specs.Convex.{Accepted}
@@ -54,13 +53,6 @@ module _ (cs : List Corner) where
   pub held-outline : Accepted cs → IsOutline (held cs)
   unfolding held
   held-outline ok = record { fits = ok .at-most; accepted = rw cornersOf-held ok }
-
-module _ (o : Outline) where
-  pub length-cornersOf : o .count ≤ length (o .corners) → length (cornersOf o) ≡ o .count
-  length-cornersOf fits = length-take-le (o .count) (o .corners) fits
-
-  pub cornersOf-corner : (i : ℕ) → i < o .count → corner (cornersOf o) i ≡ corner (o .corners) i
-  cornersOf-corner i below = getD-take (o .count) (o .corners) i origin below
 
 -- the first i corners, and zeros after them
 abbrev filled : List Corner → ℕ → List Corner

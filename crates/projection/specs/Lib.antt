@@ -1,2 +1,3 @@
 -- What the code of the nearest point needs beside the definitions of `nearest`.
 pub mod Part
+pub mod AtEdge

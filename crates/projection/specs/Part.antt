@@ -1,4 +1,4 @@
--- The part of an edge that is nearest to a point v. For the code alone, which tries an edge only if v is right of it.
+-- The part of an edge that is nearest to a point v. For the code alone, which looks for one only if v is right of it.
 use mathlib.Core.Bool.{cond}
 use Rattle.plane.specs.declared.Corner.{Corner}
 use Rattle.plane.specs.Vector.{_⇀_}

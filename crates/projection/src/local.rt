@@ -1,7 +1,10 @@
 // What of an outline is the nearest feature to v, told at one corner or edge and the corners next to it alone.
 use plane::Corner;
 ghost use mathlib.Core.Path.{_≡_};
+ghost use mathlib.Core.Bool.{true};
 ghost use Rattle.plane.specs.Range.{InRange};
+ghost use Rattle.plane.specs.Vector.{_⇀_};
+ghost use Rattle.plane.specs.code.Tests.{isRight};
 ghost use Rattle.nearest.specs.code.Local.{footIsBetween, cornerIsNearest};
 ghost use Rattle.projection.specs.Part.{nearestPart};
 
@@ -46,20 +49,17 @@ fn corner_is_nearest(v: Corner, before: Corner, c: Corner, after: Corner) -> boo
     !plane::same(c, v)
 }
 
-// The part of the edge from p to q, with the corners before and after it, that is the nearest feature. It is none
-// if v is not strictly right of the edge: the sign of a side number decides that, and for most edges it is the only
-// test.
+// The part of the edge from p to q, with the corners before and after it, that is the nearest feature; v is strictly
+// right of the edge.
 pub fn nearest_part(v: Corner, before: Corner, p: Corner, q: Corner, after: Corner) -> Part
     requires { ⌜ InRange v ⌝ }
     requires { ⌜ InRange before ⌝ }
     requires { ⌜ InRange p ⌝ }
     requires { ⌜ InRange q ⌝ }
     requires { ⌜ InRange after ⌝ }
+    requires { ⌜ isRight p (p ⇀ q) v ≡ true ⌝ }
     ensures { λ r. ⌜ r ≡ nearestPart v before p q after ⌝ }
 {
-    if !plane::is_right(p, plane::difference(p, q), v) {
-        return Part::None;
-    }
     if foot_is_between(v, p, q) {
         return Part::Between;
     }

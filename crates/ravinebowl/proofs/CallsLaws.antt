@@ -1,10 +1,10 @@
 -- What the calls return and leave in a result list, by its length and by what the wrapped call answers.
---     compare-wrong, nearest-wrong    the result list has the wrong length
---     compare-right, nearest-right    it has the right length, and this is answered
+--     compare-wrong, nearest-wrong, mismatch-wrong    the result list has the wrong length
+--     compare-right, nearest-right, mismatch-right    it has the right length, and this is answered
 -- Where the code is not that of an answer, no list was written:
---     NotAnswered, compare-kept, nearest-kept, removal-kept
+--     NotAnswered, compare-kept, nearest-kept, removal-kept, mismatch-kept
 -- The code of a refusal is neither that of an answer nor that of a wrong length:
---     CodeApart, compare-code, nearest-code, removal-code
+--     CodeApart, compare-code, nearest-code, removal-code, mismatch-code
 use Prim.Native.Nat.{ℕ, _<_}
 use mathlib.Core.Path.{_≡_, refl}
 use mathlib.Core.Bool.{Bool, true, false, cond}
@@ -32,12 +32,17 @@ use Rattle.hausdorff.specs.declared.Comparison.the-variants.{Refused, Reported}
 use Rattle.hausdorff.specs.Call.{pairConditions}
 use Rattle.hausdorff.specs.code.Call.{comparison}
 use Rattle.hausdorff.proofs.CallLaws.{compare-refuses}
+use Rattle.mismatch.specs.declared.MismatchAnswer.{MismatchAnswer}
+use Rattle.mismatch.specs.declared.MismatchAnswer.the-variants as MismatchAnswer
+use Rattle.mismatch.specs.code.Call.{mismatchAnswer}
+use Rattle.mismatch.proofs.CallLaws.{mismatch-refuses}
 use Rattle.encoding.specs.declared.status.Status.{Status}
 use Rattle.encoding.specs.Status.{answered, wrongResultLength, refusedStatus}
 use Rattle.encoding.proofs.StatusLaws.{refused-code}
 use Rattle.ravinebowl.specs.Calls.{compareLength, statusOfComparison, listOfComparison, compareStatus}
 use Rattle.ravinebowl.specs.Calls.{compareList}
 use Rattle.ravinebowl.specs.Calls.{nearestLength, statusOfNearest, listOfNearest, nearestStatus, nearestList}
+use Rattle.ravinebowl.specs.Calls.{mismatchLength, statusOfMismatch, listOfMismatch, mismatchStatus, mismatchList}
 use Rattle.ravinebowl.specs.Calls.{statusOfVerdict, removalStatus}
 
 abbrev pub NotAnswered : Status → Type 0
@@ -88,6 +93,25 @@ module _ (x y : ℤ) (s result : List ℤ) where
       by-answer (NearestAnswer.Refused r) not = refl
       by-answer (NearestAnswer.Found a) not = absurd (not refl)
 
+module _ (s t result : List ℤ) where
+  pub mismatch-wrong : length result ≢ mismatchLength
+      → (mismatchStatus s t result ≡ wrongResultLength) × (mismatchList s t result ≡ result)
+  unfolding mismatchStatus mismatchList
+  mismatch-wrong other = let test = ne-eqb (length result) mismatchLength other in (rw test, rw test)
+
+  pub mismatch-right : length result ≡ mismatchLength → {answer : MismatchAnswer} → mismatchAnswer s t ≡ answer
+      → (mismatchStatus s t result ≡ statusOfMismatch answer) × (mismatchList s t result ≡ listOfMismatch answer result)
+  unfolding mismatchStatus mismatchList
+  mismatch-right same is = let test = eq-eqb (length result) mismatchLength same in (rw (test, is), rw (test, is))
+
+  pub mismatch-kept : NotAnswered (mismatchStatus s t result) → mismatchList s t result ≡ result
+  unfolding mismatchStatus mismatchList
+  mismatch-kept = kept-by-length _ (eqb (length result) mismatchLength) (by-answer (mismatchAnswer s t))
+    where
+      by-answer : (answer : MismatchAnswer) → NotAnswered (statusOfMismatch answer) → listOfMismatch answer result ≡ result
+      by-answer (MismatchAnswer.Refused r) not = refl
+      by-answer (MismatchAnswer.Summed m) not = absurd (not refl)
+
 pub removal-kept : (s : List ℤ) (k : ℕ) (out : List ℤ) → NotAnswered (removalStatus s k out) → listAfter s k out ≡ out
 removal-kept s k out = by-verdict (removalVerdict s k out) _
   where
@@ -109,3 +133,6 @@ pub removal-code : (s : List ℤ) (k : ℕ) (out : List ℤ) (r : Refusal) → r
     → CodeApart r
 removal-code s k out r is =
     refused-code (removalConditions s k (length out)) r refl (removal-refused s k (length out) r .0 is)
+
+pub mismatch-code : (s t : List ℤ) (r : Refusal) → mismatchAnswer s t ≡ MismatchAnswer.Refused r → CodeApart r
+mismatch-code s t r is = refused-code (pairConditions s t) r refl (mismatch-refuses s t r .0 is)

@@ -1,4 +1,4 @@
--- Rules 9.1 to 9.8: what each call returns, and what it leaves in the list that it may write.
+-- Rules 9.1 to 9.8 and 9.10: what each call returns, and what it leaves in the list that it may write.
 use Prim.Native.Nat.{ℕ}
 use mathlib.Core.Bool.{cond}
 use mathlib.Core.List.{List}
@@ -14,9 +14,12 @@ use Rattle.nearest.specs.code.Call.{nearestAnswer}
 use Rattle.hausdorff.specs.declared.Comparison.{Comparison}
 use Rattle.hausdorff.specs.declared.Comparison.the-variants.{Refused, Reported}
 use Rattle.hausdorff.specs.code.Call.{comparison}
+use Rattle.mismatch.specs.declared.MismatchAnswer.{MismatchAnswer}
+use Rattle.mismatch.specs.declared.MismatchAnswer.the-variants as MismatchAnswer
+use Rattle.mismatch.specs.code.Call.{mismatchAnswer}
 use Rattle.encoding.specs.declared.status.Status.{Status}
 use Rattle.encoding.specs.Status.{answered, wrongResultLength, refusedStatus}
-use Rattle.encoding.specs.Results.{ofNearest, ofReport}
+use Rattle.encoding.specs.Results.{ofNearest, ofReport, ofSum}
 
 -- how long the result list of the nearest point must be (rule 9.4)
 abbrev pub nearestLength : ℕ
@@ -25,6 +28,10 @@ nearestLength = 7
 -- how long the result list of comparing must be (rule 9.5)
 abbrev pub compareLength : ℕ
 compareLength = 32
+
+-- how long the result list of the mismatch sum must be (rule 9.10)
+abbrev pub mismatchLength : ℕ
+mismatchLength = 1
 
 -- one value where the result list has the right length, another where not: that is judged before anything else
 abbrev pub ifOfLength : {X : Type 0} → List ℤ → ℕ → X → X → X
@@ -65,6 +72,24 @@ nearestStatus x y s result = ifOfLength result nearestLength (statusOfNearest (n
 -- what it leaves in the result list
 unfoldable pub nearestList : ℤ → ℤ → List ℤ → List ℤ → List ℤ
 nearestList x y s result = ifOfLength result nearestLength (listOfNearest (nearestAnswer (record { x = x; y = y }) s) result) result
+
+-- the status, by what the call for the mismatch sum answers
+abbrev pub statusOfMismatch : MismatchAnswer → Status
+statusOfMismatch (MismatchAnswer.Refused r) = refusedStatus r
+statusOfMismatch (MismatchAnswer.Summed m) = answered
+
+-- the result list after that, given what it held before
+abbrev pub listOfMismatch : MismatchAnswer → List ℤ → List ℤ
+listOfMismatch (MismatchAnswer.Refused r) before = before
+listOfMismatch (MismatchAnswer.Summed m) before = ofSum m
+
+-- the status that `ravinebowl_mismatch` returns
+unfoldable pub mismatchStatus : List ℤ → List ℤ → List ℤ → Status
+mismatchStatus s t result = ifOfLength result mismatchLength (statusOfMismatch (mismatchAnswer s t)) wrongResultLength
+
+-- what it leaves in the result list
+unfoldable pub mismatchList : List ℤ → List ℤ → List ℤ → List ℤ
+mismatchList s t result = ifOfLength result mismatchLength (listOfMismatch (mismatchAnswer s t) result) result
 
 -- the status, by what removing a corner answers
 abbrev pub statusOfVerdict : Verdict → Status

@@ -2,6 +2,7 @@
 // refusal is a status, and a refused call writes to no list. `embed/ravinebowl.h` declares them for C.
 use encoding::results;
 use encoding::results::COMPARE_LENGTH;
+use encoding::results::MISMATCH_LENGTH;
 use encoding::results::NEAREST_LENGTH;
 use encoding::results::SIDE_A_PLACE;
 use encoding::results::SIDE_B_PLACE;
@@ -9,6 +10,7 @@ use encoding::status;
 use encoding::status::Status;
 use hausdorff::Comparison;
 use hausdorff::Report;
+use mismatch::MismatchAnswer;
 use nearest::NearestAnswer;
 use outline::Side;
 use outline::Verdict;
@@ -20,7 +22,7 @@ ghost use lib.Seq.{paste};
 ghost use Rattle.hausdorff.specs.code.Sizes.{ReportFits};
 ghost use Rattle.encoding.specs.Results.{ofReport};
 ghost use Rattle.ravinebowl.specs.Calls.{compareLength, compareStatus, compareList, nearestStatus, nearestList};
-ghost use Rattle.ravinebowl.specs.Calls.{removalStatus};
+ghost use Rattle.ravinebowl.specs.Calls.{removalStatus, mismatchStatus, mismatchList};
 ghost use Rattle.edit.specs.code.Removal.{listAfter};
 
 // Copies numbers to a list, from a place on.
@@ -109,5 +111,25 @@ pub extern "C" fn ravinebowl_remove_corner(
     match calls::remove_corner(outline, corner, out) {
         Verdict::Taken => status::answered(),
         Verdict::Refused(refusal) => status::refused(refusal),
+    }
+}
+
+// The mismatch sum of the outlines that the lists `a` and `b` give: the squared distance of every corner of each to the
+// other piece, 0 in it, is brought down to a whole number of 1/1024 square millimetres, and these are added. Writes this
+// one number to `result`. A `result` of another length is judged first; then refusals 1 to 6 for A, then for B.
+#[no_mangle]
+pub extern "C" fn ravinebowl_mismatch(a: &[i32], b: &[i32], result: &mut [i64]) -> Status
+    ensures status { λ r. ⌜ r ≡ mismatchStatus (now (a .entry)) (now (b .entry)) (now (result .entry)) ⌝ }
+    ensures list { λ _. ⌜ now (result .exit) ≡ mismatchList (now (a .entry)) (now (b .entry)) (now (result .entry)) ⌝ }
+{
+    if result.len() != MISMATCH_LENGTH {
+        return status::wrong_result_length();
+    }
+    match calls::mismatch(a, b) {
+        MismatchAnswer::Refused(refusal) => status::refused(refusal),
+        MismatchAnswer::Summed(sum) => {
+            write(&results::of_sum(sum), result, 0);
+            status::answered()
+        }
     }
 }

@@ -13,6 +13,7 @@ use Rattle.plane.specs.code.Range.{inRange}
 use Rattle.outline.specs.declared.RefusedSide.the-variants.{NoSide}
 use Rattle.outline.specs.code.Checks.{ifTaken}
 use Rattle.outline.specs.Corners.{corners, corner}
+use Rattle.outline.specs.code.Either.{heldCorners, checkEither}
 use Rattle.outline.specs.code.Reading.{reading}
 use Rattle.nearest.specs.declared.NearestPoint.{NearestPoint}
 use Rattle.nearest.specs.code.Local.{nearest}
@@ -39,7 +40,7 @@ greatestDigest cs points = fold greater 0 (λ i. digestAt cs (corner points i)) 
 
 -- that of the outline and the points that two lists give; 0 where the outline is refused
 unfoldable pub timingCore : List ℤ → List ℤ → ℕ
-timingCore s points = ifTaken (reading NoSide s .verdict) (greatestDigest (corners s) (corners points)) 0
+timingCore s points = ifTaken (checkEither NoSide s) (greatestDigest (heldCorners s) (corners points)) 0
 
 -- the lesser of x and y
 abbrev pub lesserCoordinate : Corner → ℤ

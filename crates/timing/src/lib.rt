@@ -2,16 +2,16 @@
 // `ravinebowl`.
 use nearest::NearestPoint;
 use outline::MOST;
-use outline::Outline;
+use outline::Orientation;
 use outline::RefusedSide;
 use outline::Verdict;
 use plane::Corner;
 use plane::Point;
+use reading::checks;
 use reading::corners;
 ghost use mathlib.Core.Path.{_≡_};
-ghost use Rattle.outline.specs.code.Held.{IsOutline};
 ghost use Rattle.outline.specs.Corners.{corners};
-ghost use Rattle.outline.specs.code.Held.{cornersOf};
+ghost use Rattle.outline.specs.Orientation.{asHeld, AcceptedAs};
 ghost use Rattle.timing.specs.Answers.{greater, isAboveDiagonal, digest, digestAt, greatestDigest};
 ghost use Rattle.timing.specs.Answers.{timingCore, lesserCoordinate, timingRead};
 
@@ -38,44 +38,45 @@ fn digest(a: NearestPoint) -> u64
     }
 }
 
-// That of the nearest point to v, or 0 where v is out of range.
-fn digest_at(o: Outline, v: Corner) -> u64
-    requires { ⌜ IsOutline o ⌝ }
-    ensures { λ r. ⌜ r ≡ digestAt (cornersOf o) v ⌝ }
+// That of the nearest point, to v, of the outline that a list gives; 0 where v is out of range.
+fn digest_at(s: &[i32], orientation: Orientation, v: Corner) -> u64
+    requires { ⌜ AcceptedAs orientation (now s) ⌝ }
+    ensures { λ r. ⌜ r ≡ digestAt (asHeld orientation (corners (now (s .entry)))) v ⌝ }
 {
     if !plane::in_range(v) {
         return 0;
     }
-    digest(projection::nearest(o, v))
+    digest(projection::nearest(s, orientation, v))
 }
 
 // The greatest of these for the points of a list, x and y of each.
-fn greatest_digest(o: Outline, points: &[i32]) -> u64
-    requires { ⌜ IsOutline o ⌝ }
-    ensures { λ r. ⌜ r ≡ greatestDigest (cornersOf o) (corners (now (points .entry))) ⌝ }
+fn greatest_digest(s: &[i32], orientation: Orientation, points: &[i32]) -> u64
+    requires { ⌜ AcceptedAs orientation (now s) ⌝ }
+    ensures { λ r. ⌜ r ≡ greatestDigest (asHeld orientation (corners (now (s .entry)))) (corners (now (points .entry))) ⌝ }
 {
     let n = corners::count(points);
     let mut greatest = 0;
     let mut i = 0;
     while i < n {
-        greatest = greater(greatest, digest_at(o, corners::corner(points, i)));
+        greatest = greater(
+            greatest,
+            digest_at(s, orientation, corners::corner(points, i)),
+        );
         i += 1;
     }
     greatest
 }
 
-// The nearest point for each point of a list, with the outline read once. Answers the greatest of the numbers that
+// The nearest point for each point of a list, with the outline checked once. Answers the greatest of the numbers that
 // `digest` gives, or 0 where the outline is refused.
 #[no_mangle]
 pub extern "C" fn timing_core(s: &[i32], points: &[i32]) -> u64
     ensures { λ r. ⌜ r ≡ timingCore (now (s .entry)) (now (points .entry)) ⌝ }
 {
-    let reading = reading::read(s, RefusedSide::NoSide);
-    let verdict = reading.verdict;
-    if let Verdict::Refused(_) = verdict {
+    if let Verdict::Refused(_) = checks::check_either(s, RefusedSide::NoSide) {
         return 0;
     }
-    greatest_digest(reading.outline, points)
+    greatest_digest(s, checks::orientation(s), points)
 }
 
 fn lesser_coordinate(v: Corner) -> i32

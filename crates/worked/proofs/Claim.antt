@@ -17,6 +17,7 @@ use Rattle.edit.specs.code.Removal.{checkRemoval}
 use Rattle.plane.specs.Direction.{isFirstHalf, isBefore, sameDirection}
 use Rattle.plane.specs.Point.{_⇢_}
 use Rattle.integers.specs.code.Root.{rootBy}
+use Rattle.integers.specs.code.Units.{wholeUnits}
 use Rattle.lists.specs.Lists.{insert, sort}
 use Rattle.hausdorff.specs.AngularOrder.{precedes, angularOrder}
 use Rattle.hausdorff.specs.code.Counting.{liesAt, isCounted}
@@ -26,14 +27,14 @@ use Rattle.hausdorff.specs.code.Report.{report}
 use Rattle.hausdorff.specs.code.Call.{checkPair}
 use Rattle.worked.specs.Cases.{All, cases, S, T, star, straight, clockwise, straightBack, twice, wedge, moved}
 use Rattle.worked.specs.Cases.{turned, low, high, S3, T3, upward, downward, square, squareBack, squareMoved, flat}
-use Rattle.worked.specs.Cases.{tall, kite, kiteBack, thin, wide}
+use Rattle.worked.specs.Cases.{tall, kite, kiteBack, thin, wide, needle, long, longBent, short, shortBent}
 
 pub claim : All cases
 unfolding inRange _⇀_ cross dot same fold corners next checkRange checkRepeated checkEdge checkConvex check checkPair
     without checkRemoval feature tried least checkNearest isFirstHalf isBefore sameDirection _⇢_
     rootBy precedes insert sort angularOrder liesAt isCounted firstStart passAll measured worstAfter report
-    orientationOf givenCorner checkEitherConvex checkEither isConvex
+    orientationOf givenCorner checkEitherConvex checkEither isConvex wholeUnits
     S T star straight clockwise straightBack twice wedge moved turned low high S3 T3 upward downward
-    square squareBack squareMoved flat tall kite kiteBack thin wide
+    square squareBack squareMoved flat tall kite kiteBack thin wide needle long longBent short shortBent
 claim =
-    (refl, (refl, (refl, (refl, (refl, (refl, (refl, (refl, (refl, (refl, (refl, (refl, ((refl, refl), ((refl, refl), ((refl, refl), ((refl, refl), ((refl, refl), (refl, (refl, (refl, (refl, (refl, (refl, (refl, (refl, (refl, (refl, (refl, (refl, (refl, (refl, (refl, (refl, (refl, (refl, (refl, (refl, (refl, (refl, (refl, (refl, (refl, (refl, (refl, (refl, (refl, (refl, (refl, (refl, (refl, (refl, (refl, (refl, (refl, (refl, (refl, (refl, (refl, (refl, (refl, (refl, (refl, (refl, (refl, (refl, (refl, (refl, (refl, (refl, (refl, (refl, (refl, (refl, ((refl, refl, refl), ((refl, refl, refl), ((refl, refl, refl), ((refl, refl, refl), ((refl, refl, refl), ((refl, refl, refl), ((refl, refl, refl), tt))))))))))))))))))))))))))))))))))))))))))))))))))))))))))))))))))))))))))))))))
+    (refl, (refl, (refl, (refl, (refl, (refl, (refl, (refl, (refl, (refl, (refl, (refl, ((refl, refl), ((refl, refl), ((refl, refl), ((refl, refl), ((refl, refl), (refl, (refl, (refl, (refl, (refl, (refl, (refl, (refl, (refl, (refl, (refl, (refl, (refl, (refl, (refl, (refl, (refl, (refl, (refl, (refl, (refl, (refl, (refl, (refl, (refl, (refl, (refl, (refl, (refl, (refl, (refl, (refl, (refl, (refl, (refl, (refl, (refl, (refl, (refl, (refl, (refl, (refl, (refl, (refl, (refl, (refl, (refl, (refl, (refl, (refl, (refl, (refl, (refl, (refl, (refl, (refl, ((refl, refl, refl), ((refl, refl, refl), ((refl, refl, refl), ((refl, refl, refl), ((refl, refl, refl), ((refl, refl, refl), ((refl, refl, refl), (refl, (refl, (refl, (refl, (refl, (refl, (refl, (refl, (refl, (refl, (refl, (refl, (refl, (refl, (refl, tt)))))))))))))))))))))))))))))))))))))))))))))))))))))))))))))))))))))))))))))))))))))))))))))))

@@ -37,6 +37,9 @@ use Rattle.hausdorff.specs.AngularOrder.{PairEdge, angularOrder}
 use Rattle.hausdorff.specs.Exhaustive.{exhaustiveOf, exhaustive}
 use Rattle.hausdorff.specs.Given.{givenGap}
 use Rattle.hausdorff.specs.code.Call.{orientations, pairOf, comparison}
+use Rattle.mismatch.specs.declared.MismatchAnswer.{MismatchAnswer}
+use Rattle.mismatch.specs.declared.MismatchAnswer.the-variants as MismatchAnswer
+use Rattle.mismatch.specs.code.Call.{mismatchAnswer}
 
 -- a call, what it is handed, and what it answers
 pub data Case : Type 0 where
@@ -56,6 +59,8 @@ pub data Case : Type 0 where
   compares : List ℤ → List ℤ → ℕ → Comparison → Case
   -- the exhaustive search finds these for A and for B, and this for both, by the lists as given
   exhausts : List ℤ → List ℤ → CornerGap → CornerGap → CornerGap → Case
+  -- the call for the mismatch sum of the lists ends so
+  sums : List ℤ → List ℤ → MismatchAnswer → Case
 
 -- a corner of two lists' outlines, by the lists as given
 abbrev named : List ℤ → List ℤ → CornerGap → CornerGap
@@ -76,6 +81,7 @@ Holds (exhausts s t in-a in-b found) =
     (named s t (exhaustiveOf (pairOf s t) (orientations s t) A) ≡ in-a)
     × (named s t (exhaustiveOf (pairOf s t) (orientations s t) B) ≡ in-b)
     × (named s t (exhaustive (pairOf s t) (orientations s t)) ≡ found)
+Holds (sums s t ends) = mismatchAnswer s t ≡ ends
 
 -- each case of a list holds
 abbrev pub All : List Case → Type 0
@@ -245,6 +251,26 @@ thin = pos 2 ∷ pos 0 ∷ pos 1 ∷ pos 0 ∷ negsuc 1 ∷ negsuc 0 ∷ []
 -- the other triangle of that pair
 unfoldable pub wide : List ℤ
 wide = pos 0 ∷ pos 0 ∷ negsuc 1 ∷ pos 2 ∷ negsuc 1 ∷ negsuc 0 ∷ []
+
+-- a triangle in S, to which the gaps of S are 0, 144/17, 4 and 16/5
+unfoldable pub needle : List ℤ
+needle = pos 0 ∷ pos 0 ∷ pos 1 ∷ pos 0 ∷ pos 2 ∷ pos 4 ∷ []
+
+-- a triangle with a long edge 0
+unfoldable pub long : List ℤ
+long = pos 0 ∷ pos 0 ∷ pos 32 ∷ pos 1 ∷ pos 0 ∷ pos 10 ∷ []
+
+-- the same with one corner more, whose gap to that edge is 1/1025
+unfoldable pub longBent : List ℤ
+longBent = pos 0 ∷ pos 0 ∷ pos 1 ∷ pos 0 ∷ pos 32 ∷ pos 1 ∷ pos 0 ∷ pos 10 ∷ []
+
+-- a triangle with a shorter edge 0
+unfoldable pub short : List ℤ
+short = pos 0 ∷ pos 0 ∷ pos 31 ∷ pos 1 ∷ pos 0 ∷ pos 10 ∷ []
+
+-- the same with one corner more, whose gap to that edge is 1/962
+unfoldable pub shortBent : List ℤ
+shortBent = pos 0 ∷ pos 0 ∷ pos 1 ∷ pos 0 ∷ pos 31 ∷ pos 1 ∷ pos 0 ∷ pos 10 ∷ []
 
 -- edge i of A in the angular order
 abbrev a : ℕ → PairEdge
@@ -460,4 +486,21 @@ cases =
     ∷ exhausts thin wide thinA0 wideB1 wideB1
     ∷ exhausts squareBack squareMoved squareBackA1 squareB0 squareBackA1
     ∷ exhausts downward clockwise downwardA1 clockwiseB1 clockwiseB1
+    ∷ sums S T (MismatchAnswer.Summed 8192)
+    ∷ sums T S (MismatchAnswer.Summed 8192)
+    ∷ sums S clockwise (MismatchAnswer.Summed 8192)
+    ∷ sums S moved (MismatchAnswer.Summed 557056)
+    ∷ sums S S (MismatchAnswer.Summed 0)
+    ∷ sums low high (MismatchAnswer.Summed 12582256649216)
+    -- gaps that are no whole numbers of units; of the second pair the exact sum is 16,046 units and more
+    ∷ sums thin wide (MismatchAnswer.Summed 13516)
+    ∷ sums S needle (MismatchAnswer.Summed 16045)
+    ∷ sums kite T (MismatchAnswer.Summed 16384)
+    ∷ sums kiteBack T (MismatchAnswer.Summed 16384)
+    -- a gap just below one unit, and one just above
+    ∷ sums longBent long (MismatchAnswer.Summed 0)
+    ∷ sums short shortBent (MismatchAnswer.Summed 1)
+    ∷ sums star T (MismatchAnswer.Refused (notLeft (Of A) 0 3))
+    ∷ sums S straightBack (MismatchAnswer.Refused (notLeft (Of B) 0 2))
+    ∷ sums straight star (MismatchAnswer.Refused (notLeft (Of A) 0 2))
     ∷ []

@@ -1,47 +1,24 @@
--- `calls::compare` goes by what the checks of A's list give, then by those of B's, and then by the report of the steps.
+-- `calls::compare` goes by what the checks of the lists find, and then by the report of the steps.
 use borrow.Author.Needs.{needs}
-use mathlib.Core.Path.{refl}
-use Rattle.outline.proofs.EitherLaws.{checked-accepted}
-use Rattle.hausdorff.proofs.CallLaws.{call-refused-a, call-refused-b, call-reported, call-promises}
+use mathlib.Core.Path.{sym, _∙_}
+use Rattle.hausdorff.proofs.CallLaws.{pair-taken, call-refused, call-reported, call-promises}
 use Rattle.calls.proofs.compare.Statement.{statement}
 use Rattle.calls.proofs.compare.Tie as tie
 
-ruleset by-checks = (call-refused-a, call-refused-b, call-reported)
+compare-requires : tie.Need-compare-requires
+compare-requires c κs =
+    pair-taken _ _ _ _ .0 (sym (c .before .before .before .check-pair .ensures) ∙ c .before .of-a .given .1)
 
 returns : tie.Need-returns
-returns c = call-promises _ _ _ (search by-checks)
+returns c =
+    call-promises _ _ _
+    (call-refused _ _ _ (c .before .before .before .check-pair .ensures) (c .before .refusal .given .1))
 
 returns-2 : tie.Need-returns-2
-returns-2 c = call-promises _ _ _ (search by-checks)
-
-orientation-requires : tie.Need-orientation-requires
-orientation-requires c κs =
-    let told = c .before .before .before in
-    let ok = checked-accepted _ _ (told .before .before .check-either .ensures) (told .enum-told .given .1) refl in
-    (ok .at-least, ok .in-range)
-
-orientation-requires-2 : tie.Need-orientation-requires-2
-orientation-requires-2 c κs =
-    let told = c .before in
-    let ok = checked-accepted _ _ (told .before .before .check-either2 .ensures) (told .enum-told2 .given .1) refl in
-    (ok .at-least, ok .in-range)
-
-compare-requires : tie.Need-compare-requires
-compare-requires c κs = (search checked-accepted, search checked-accepted)
-
-returns-3 : tie.Need-returns-3
-returns-3 c = call-promises _ _ _ (search by-checks)
+returns-2 c =
+    let known = c .before .before in
+    call-promises _ _ _
+    (call-reported _ _ _ (known .before .before .check-pair .ensures) (known .of-a .given .1) (c .compare .ensures))
 
 pub compare-spec : {M : Type 1} → statement M
-compare-spec =
-    tie.close
-    (tie.spec
-    (search needs) (search needs)
-    returns
-    (search needs) (search needs) (search needs)
-    returns-2
-    (search needs)
-    orientation-requires
-    orientation-requires-2
-    compare-requires
-    returns-3)
+compare-spec = tie.close (tie.spec (search needs) (search needs) (search needs) compare-requires returns returns-2)

@@ -23,29 +23,24 @@ orientation-requires c κs =
     let ok = checked-accepted _ _ (told .before .before .check-either .ensures) (told .enum-told .given .1) refl in
     (ok .at-least, ok .in-range)
 
-held-requires : tie.Need-held-requires
-held-requires c κs =
-    let told = c .before .before .before in
-    checked-accepted _ _ (told .before .before .check-either .ensures) (told .enum-told .given .1) refl .at-most
-
 nearest-requires : tie.Need-nearest-requires
 nearest-requires c κs =
-    let found = c .before in let tested = found .before in let ranged = tested .before in let told = ranged .before in
-    call-asks _ _ (told .before .before .check-either .ensures) (told .enum-told .given .1) (found .orientation .ensures)
-    (c .held .ensures) (rw (ranged .in-range .ensures) at (tested .if1 .left))
+    let tested = c .before in let ranged = tested .before in let told = ranged .before in
+    call-asks _ _ (told .before .before .check-either .ensures) (told .enum-told .given .1) (c .orientation .ensures)
+    (rw (ranged .in-range .ensures) at (tested .if1 .left))
 
 given-nearest-requires : tie.Need-given-nearest-requires
 given-nearest-requires c κs =
-    let holds = c .before .before in let found = holds .before in let told = found .before .before .before in
+    let found = c .before .before in let told = found .before .before .before in
     call-below _ _ (told .before .before .check-either .ensures) (told .enum-told .given .1)
-    (found .orientation .ensures) (holds .held .ensures) (c .before .nearest .ensures) (c .count .ensures)
+    (found .orientation .ensures) (c .before .nearest .ensures) (c .count .ensures)
 
 returns-3 : tie.Need-returns-3
 returns-3 c =
-    let counted = c .before in let holds = counted .before .before in let found = holds .before in
+    let counted = c .before in let found = counted .before .before in
     let tested = found .before in let ranged = tested .before in let told = ranged .before in
     call-promises _ _ (call-found _ _ (told .before .before .check-either .ensures) (told .enum-told .given .1)
-    (found .orientation .ensures) (holds .held .ensures) (rw (ranged .in-range .ensures) at (tested .if1 .left))
+    (found .orientation .ensures) (rw (ranged .in-range .ensures) at (tested .if1 .left))
     (counted .before .nearest .ensures) (counted .count .ensures) (c .given-nearest .ensures))
 
 pub nearest-point-spec : {M : Type 1} → statement M
@@ -57,7 +52,6 @@ nearest-point-spec =
     (search needs) (search needs)
     returns-2
     orientation-requires
-    held-requires
     nearest-requires
     (search needs)
     given-nearest-requires

@@ -13,6 +13,8 @@ use Rattle.outline.specs.code.Either.{orientationOf, eitherChecks}
 use Rattle.outline.specs.Corners.{corners}
 use Rattle.hausdorff.specs.declared.Comparison.{Comparison}
 use Rattle.hausdorff.specs.declared.Comparison.the-variants.{Refused, Reported}
+use Rattle.hausdorff.specs.declared.PairVerdict.{PairVerdict}
+use Rattle.hausdorff.specs.declared.PairVerdict.the-variants as PairVerdict
 use Rattle.hausdorff.specs.declared.Report.{Report}
 use Rattle.hausdorff.specs.Pair.{Pair, Orientations, bothOrientations}
 use Rattle.hausdorff.specs.Given.{givenReport}
@@ -23,9 +25,14 @@ use Rattle.hausdorff.specs.code.Report.{report}
 abbrev pub pairChecks : List ℤ → List ℤ → List Verdict
 pairChecks s t = eitherChecks (Of A) s ++ eitherChecks (Of B) t
 
--- what the first that refuses answers
-unfoldable pub checkPair : List ℤ → List ℤ → Verdict
-checkPair s t = first (pairChecks s t)
+-- what the checks find, by what the first that refuses answers
+abbrev pub pairVerdictFor : List ℤ → List ℤ → Verdict → PairVerdict
+pairVerdictFor s t Verdict.Taken = PairVerdict.Taken (orientationOf (corners s)) (orientationOf (corners t))
+pairVerdictFor s t (Verdict.Refused r) = PairVerdict.Refused r
+
+-- what the checks find: the first refusal, or the orientations of the lists
+unfoldable pub checkPair : List ℤ → List ℤ → PairVerdict
+checkPair s t = pairVerdictFor s t (first (pairChecks s t))
 
 -- the orientations of the lists
 abbrev pub orientations : List ℤ → List ℤ → Orientations
@@ -41,10 +48,9 @@ reportFor o q s t allowance =
     givenReport (heldPair o q s t) (bothOrientations o q) (report (heldPair o q s t) (bothOrientations o q) allowance)
 
 -- what the call gives, by what they find
-abbrev pub comparisonFor : List ℤ → List ℤ → ℕ → Verdict → Comparison
-comparisonFor s t allowance Verdict.Taken =
-    Reported (reportFor (orientationOf (corners s)) (orientationOf (corners t)) s t allowance)
-comparisonFor s t allowance (Verdict.Refused r) = Refused r
+abbrev pub comparisonFor : List ℤ → List ℤ → ℕ → PairVerdict → Comparison
+comparisonFor s t allowance (PairVerdict.Taken o q) = Reported (reportFor o q s t allowance)
+comparisonFor s t allowance (PairVerdict.Refused r) = Refused r
 
 -- what the call gives
 abbrev pub comparison : List ℤ → List ℤ → ℕ → Comparison

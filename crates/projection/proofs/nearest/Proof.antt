@@ -1,147 +1,91 @@
--- `projection::nearest` tries the edges in order and answers with the first part of one that is nearest.
+-- `projection::nearest` goes over the edges in order and answers with the first nearest point that is found.
 use borrow.Author.Needs.{needs}
-use mathlib.Core.Path.{_≡_, sym, _∙_}
+use mathlib.Core.Path.{_≡_, sym, ap, _∙_}
+use native.Mathlib.Nat.{lt-of-lt-of-le}
 use native.Mathlib.Omega.{arith}
 use Prim.Native.Nat.{_-_}
-use lib.ListN.{length}
-use Rattle.outline.specs.Corners.{corner, most}
-use Rattle.outline.specs.code.Held.{cornersOf}
-use Rattle.outline.proofs.CornersLaws.{before-below, after-below}
-use Rattle.outline.proofs.HeldLaws.{length-cornersOf, length-mapped}
-use Rattle.projection.proofs.Pass.{Passing, pass-start, pass-none}
-use Rattle.projection.proofs.Pass.{Turn, turn-read, turn-range, turn-start, turn-between, turn-end, turn-on}
+use lib.Dec.{lit<}
+use Rattle.plane.specs.declared.Corner.{Corner}
+use Rattle.plane.specs.Vector.{_⇀_}
+use Rattle.outline.specs.Corners.{corners, corner}
+use Rattle.outline.specs.Orientation.{asHeld}
+use Rattle.outline.proofs.CornersLaws.{after-below}
+use Rattle.outline.proofs.EitherLaws.{accepted-held}
+use Rattle.outline.proofs.OrientationLaws.{held-length}
+use Rattle.projection.proofs.Pass.{Passing, pass-start, pass-none, pass-vectors, pass-on, pass-here}
 use Rattle.projection.proofs.nearest.Statement.{statement}
 use Rattle.projection.proofs.nearest.Tie as tie
-use Rattle.projection.proofs.nearest.Reads as reads
-use Rattle.projection.proofs.nearest.Lts as lts
-use Rattle.projection.proofs.answers.at_corner.Reads as at-corner
-use Rattle.projection.proofs.answers.on_edge.Reads as on-edge
-use Rattle.projection.proofs.answers.within.Reads as within
-use Rattle.projection.proofs.local.nearest_part.Reads as nearest-part
-use Rattle.reading.proofs.corners.next.Reads as next
-use Rattle.reading.proofs.corners.previous.Reads as previous
 
 abbrev Inv-loop : tie.InvT-loop
-Inv-loop v o n i₀ i = (n ≡ length (cornersOf o)) × Passing (cornersOf o) v i
+Inv-loop s orientation v n to-start₀ i₀ to-start i = Passing (asHeld orientation (corners s)) v n i to-start
 
 abbrev μ-loop : tie.MeasureT-loop
-μ-loop v o n i₀ i = n - i
+μ-loop s orientation v n to-start₀ i₀ to-start i = n - i
+
+held-corner-requires : tie.Need-held-corner-requires Inv-loop μ-loop
+held-corner-requires c κs = lt-of-lt-of-le (lit< tt) (c .before .pre .0 .at-least)
 
 loop-holds : tie.Need-loop-holds Inv-loop μ-loop
 loop-holds c =
-    let places : length (c .args .t1 .corners) ≡ most = search length-mapped in
-    (sym (length-cornersOf (c .args .t1) (omega (arith, c .pre .0 .fits))), pass-start _ _)
+    let counted = c .before .before in
+    pass-start (counted .count .ensures ∙ sym (held-length (counted .before .args .orientation) _))
+    (c .difference .ensures ∙ ap (λ (p : Corner). counted .before .args .v ⇀ p) (c .before .held-corner .ensures))
 
-mul-before : tie.Need-mul-before Inv-loop μ-loop
-mul-before c = omega (arith, before-below (c .previous .ensures) (c .before .before .loop-test .taken))
+held-corner-requires-2 : tie.Need-held-corner-requires-2 Inv-loop μ-loop
+held-corner-requires-2 c κs =
+    let counted = c .before .before .before .before .before in
+    omega (arith, after-below (c .next .ensures) (c .before .loop-test .taken), counted .count .ensures)
 
-element-copy-out-before : tie.Need-element-copy-out-before Inv-loop μ-loop
-element-copy-out-before c = omega (arith, before-below (c .previous .ensures) (c .before .before .loop-test .taken))
+-- the vector from v to the end of the edge
+end-is : (c : tie.After-difference2 Inv-loop μ-loop)
+    → (let args = c .before .before .before .before .before .before .before .before .args in
+    c .difference2 .result ≡ args .v ⇀ corner (asHeld (args .orientation) (corners (args .s .now))) (c .before .before .next .result))
+end-is c =
+    c .difference2 .ensures
+    ∙ ap (λ (p : Corner). c .before .before .before .before .before .before .before .before .args .v ⇀ p)
+    (c .before .held-corner2 .ensures)
 
-mul-q : tie.Need-mul-q Inv-loop μ-loop
-mul-q c = let read = c .before .before .before in omega (arith, after-below (read .next .ensures) (read .before .loop-test .taken))
-
-element-copy-out-q : tie.Need-element-copy-out-q Inv-loop μ-loop
-element-copy-out-q c =
-    let read = c .before .before .before in omega (arith, after-below (read .next .ensures) (read .before .loop-test .taken))
-
-next-requires-2 : tie.Need-next-requires-2 Inv-loop μ-loop
-next-requires-2 c κs = let read = c .before .before .before .before in after-below (read .next .ensures) (read .before .loop-test .taken)
-
-mul-after : tie.Need-mul-after Inv-loop μ-loop
-mul-after c = omega (arith, after-below (c .next2 .ensures) (next-requires-2 (c .before) tt))
-
-element-copy-out-after : tie.Need-element-copy-out-after Inv-loop μ-loop
-element-copy-out-after c = omega (arith, after-below (c .next2 .ensures) (next-requires-2 (c .before) tt))
-
--- what the turn has read when it asks for the part of the edge
-turn-at : (c : lts.After-after (
-  next.Asked,
-  next.Learnt,
-  previous.Asked,
-  previous.Learnt,
-  nearest-part.Asked,
-  nearest-part.Learnt,
-  at-corner.Asked,
-  at-corner.Learnt,
-  on-edge.Asked,
-  on-edge.Learnt,
-  within.Asked,
-  within.Learnt,
-) reads.Pre reads.Post Inv-loop μ-loop)
-    → (let i = c .before .before .before .before .before .before .before .before .loop .i in
-    let j = c .before .before .before .before .before .before .next .result in
-    let o = c .before .before .before .before .before .before .before .before .before .args .t1 in
-    Turn (cornersOf o) i j (corner (o .corners) (c .before .before .before .before .before .previous .result)) (corner (o .corners) i)
-    (corner (o .corners) j) (corner (o .corners) (c .before .next2 .result)))
-turn-at c =
-    let read = c .before .before .before .before .before .before in
-    turn-read _ (read .before .before .before .pre .0) (read .before .before .loop .inv .0) (read .before .loop-test .taken)
-    (read .next .ensures) (c .before .before .before .before .before .previous .ensures) (c .before .next2 .ensures)
-
-nearest-part-requires : tie.Need-nearest-part-requires Inv-loop μ-loop
-nearest-part-requires c κs = (c .before .before .before .before .before .before .before .before .before .pre .1, turn-range (turn-at c))
-
-at-corner-requires : tie.Need-at-corner-requires Inv-loop μ-loop
-at-corner-requires c κs = let (v, (_, (p, _))) = nearest-part-requires (c .before .before .before) κs in (v, p)
+at-edge-requires : tie.Need-at-edge-requires Inv-loop μ-loop
+at-edge-requires c κs =
+    let read = c .before .before in let looped = read .before .before in
+    let (ok, in-range) = looped .before .before .before .before .pre in
+    (ok, (in-range, pass-vectors (looped .loop .inv) (read .before .loop-test .taken) (read .next .ensures) (end-is c)))
 
 returns : tie.Need-returns Inv-loop μ-loop
 returns c =
-    let part = c .before .before .before in
-    c .at-corner .ensures ∙ turn-start (turn-at (part .before)) _ (part .nearest-part .ensures) (c .before .enum-told2 .given .1)
-
-on-edge-requires : tie.Need-on-edge-requires Inv-loop μ-loop
-on-edge-requires c κs = let (v, (_, (p, (q, _)))) = nearest-part-requires (c .before .before .before) κs in (v, (p, q))
-
-returns-2 : tie.Need-returns-2 Inv-loop μ-loop
-returns-2 c =
-    let part = c .before .before .before in
-    c .on-edge .ensures ∙ turn-between (turn-at (part .before)) _ (part .nearest-part .ensures) (c .before .enum-told3 .given .1)
-
-at-corner-requires-2 : tie.Need-at-corner-requires-2 Inv-loop μ-loop
-at-corner-requires-2 c κs = let (v, (_, (_, (q, _)))) = nearest-part-requires (c .before .before .before) κs in (v, q)
-
-returns-3 : tie.Need-returns-3 Inv-loop μ-loop
-returns-3 c =
-    let part = c .before .before .before in
-    c .at-corner2 .ensures ∙ turn-end (turn-at (part .before)) _ (part .nearest-part .ensures) (c .before .enum-told4 .given .1)
+    let asked = c .before .before .before in let ended = asked .before in let read = ended .before .before in
+    let looped = read .before .before in
+    pass-here (looped .loop .inv) (read .before .loop-test .taken) (read .next .ensures) (end-is ended)
+    (asked .at-edge .ensures) (accepted-held (looped .before .before .before .before .pre .0)) (c .before .nearest .given .1)
 
 loop-again : tie.Need-loop-again Inv-loop μ-loop
 loop-again c =
-    let part = c .before .before in
-    let inv = part .before .before .before .before .before .before .before .before .before .loop .inv in
-    (inv .0, turn-on (turn-at (part .before)) _ (part .nearest-part .ensures) (inv .1) (c .enum-told .given .1))
+    let asked = c .before .before in let ended = asked .before in let read = ended .before .before in
+    pass-on (read .before .before .loop .inv) (read .before .loop-test .taken) (read .next .ensures) (end-is ended)
+    (asked .at-edge .ensures) (c .enum-told .given .1)
 
-returns-4 : tie.Need-returns-4 Inv-loop μ-loop
-returns-4 c =
+returns-2 : tie.Need-returns-2 Inv-loop μ-loop
+returns-2 c =
+    let looped = c .before .before in
     c .within .ensures
-    ∙ pass-none (c .before .before .before .pre .0 .accepted) (c .before .before .loop .inv .1) (omega arith)
+    ∙ pass-none (looped .loop .inv) (accepted-held (looped .before .before .before .before .pre .0)) (omega arith)
 
 pub nearest-spec : {M : Type 1} → statement M
 nearest-spec =
     tie.close
     (tie.spec Inv-loop μ-loop
+    (search needs)
+    held-corner-requires
+    (search needs)
     loop-holds
-    (omega arith) (omega arith)
-    mul-before
-    element-copy-out-before
-    (omega arith) (omega arith)
-    mul-q
-    element-copy-out-q
-    next-requires-2
-    mul-after
-    element-copy-out-after
-    nearest-part-requires
-    (search needs) (search needs)
-    at-corner-requires
+    (omega arith)
+    held-corner-requires-2
+    (search needs)
+    at-edge-requires
+    (search needs)
     returns
     (search needs)
-    on-edge-requires
-    returns-2
-    (search needs)
-    at-corner-requires-2
-    returns-3
     (omega arith) (omega arith)
     loop-again
     (search needs)
-    returns-4)
+    returns-2)

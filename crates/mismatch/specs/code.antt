@@ -1,0 +1,3 @@
+-- For code and proofs alone.
+pub mod MismatchSum
+pub mod Call
