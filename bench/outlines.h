@@ -1,5 +1,5 @@
-/* What the benchmarks of two outlines share: the pairs, and the timing of some ways to answer on each, which must give
-   the same answer. Corners are those of plain.h. */
+/* What the benchmarks of two outlines share: the pairs, and the timing of some ways to answer on each; and the ways of
+   those over lists, which must give the same answer. Corners are those of plain.h. */
 #include <math.h>
 #include <stdio.h>
 #include <stdlib.h>
@@ -17,7 +17,8 @@ typedef struct {
     Corner clockwise_a[MOST], clockwise_b[MOST];
 } Pair;
 
-/* The ways: the proved call, the same with both lists clockwise, the checks of both lists alone, and two in plain C. */
+/* The ways over lists: the proved call, the same with both lists clockwise, the checks of both lists alone, and two in
+   plain C. */
 enum { CALL, CLOCKWISE, CHECKS, PLAIN, EXHAUSTIVE, WAYS };
 
 /* A way: some turns, which all together give the greatest answer, and how many turns make a run. */
@@ -46,19 +47,19 @@ static int agree(const Pair *p, const Way *ways) {
     return answer != 0;
 }
 
-/* The medians of all ways, their runs taken in turn so that load on the machine meets each alike. */
-static void medians(const Pair *p, const Way *ways, double *out) {
+/* The medians of some ways, their runs taken in turn so that load on the machine meets each alike. */
+static void medians(const Pair *p, const Way *ways, int count, double *out) {
     static volatile uint64_t sink;
-    static double run[WAYS][RUNS];
+    double run[count][RUNS];
     for (int i = 0; i < RUNS; i++)
-        for (int w = 0; w < WAYS; w++) {
+        for (int w = 0; w < count; w++) {
             uint32_t turns = ways[w].turns(p->n);
             double start = now();
             sink = ways[w].answer(p, turns);
             run[w][i] = (now() - start) / turns;
         }
     (void)sink;
-    for (int w = 0; w < WAYS; w++) {
+    for (int w = 0; w < count; w++) {
         qsort(run[w], RUNS, sizeof run[w][0], by_size);
         out[w] = run[w][RUNS / 2];
     }
@@ -70,6 +71,17 @@ static void ellipse(Corner *out, size_t n, double rx, double ry, double x, doubl
         double t = 2 * M_PI * (i + turn) / n;
         out[i] = (Corner){(int32_t)lround(x + rx * cos(t)), (int32_t)lround(ry * sin(t))};
     }
+}
+
+/* A wide ellipse and a tall one; and two circles side by side. */
+static void make_crossing(Pair *p) {
+    ellipse(p->a, p->n, 15000, 12000, 0, 0.3);
+    ellipse(p->b, p->n, 12000, 15000, 0, 0);
+}
+
+static void make_apart(Pair *p) {
+    ellipse(p->a, p->n, 7600, 7600, -8000, 0.3);
+    ellipse(p->b, p->n, 7600, 7600, 8000, 0);
 }
 
 static void reverse(Corner *out, const Corner *corners, size_t n) {
@@ -88,7 +100,7 @@ static void time_pair(const char *name, Pair *p, const Way *ways, Row *row) {
         fprintf(stderr, "%s, 2x%zu: an outline is refused, or the answers differ\n", name, p->n);
         exit(1);
     }
-    medians(p, ways, t);
+    medians(p, ways, WAYS, t);
     row(name, p->n, t);
 }
 
@@ -99,11 +111,9 @@ static void time_pairs(const Way *ways, Row *row) {
         ellipse(p.a, p.n, 15000, 15000, 0, 0.3);
         ellipse(p.b, p.n, 14000, 14000, 0, 0);
         time_pair("one in the other", &p, ways, row);
-        ellipse(p.a, p.n, 15000, 12000, 0, 0.3);
-        ellipse(p.b, p.n, 12000, 15000, 0, 0);
+        make_crossing(&p);
         time_pair("crossing", &p, ways, row);
-        ellipse(p.a, p.n, 7600, 7600, -8000, 0.3);
-        ellipse(p.b, p.n, 7600, 7600, 8000, 0);
+        make_apart(&p);
         time_pair("apart", &p, ways, row);
     }
 }

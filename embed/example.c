@@ -13,6 +13,23 @@ static const int32_t MOVED[] = {10, 0, 14, 0, 14, 4, 10, 4};
 static const int32_t STAR[] = {0, 3, -2, -3, 3, 1, -3, 1, 2, -3};
 static const int32_t WEDGE[] = {0, 0, 9, 0, 0, 3};
 
+/* The square from record 3 on and the triangle from record 6 on, their last corner in one record. Record 0 is not read. */
+static const int32_t RECORDS[] = {
+    7, 7, 7,
+    4, 4, 4,
+    4, 0, 4,
+    0, 0, 5,
+    0, 4, 0,
+    4, 0, 1,
+    0, 0, 2,
+};
+
+/* Record 1 is followed by itself. */
+static const int32_t RING[] = {
+    7, 7, 7,
+    0, 0, 1,
+};
+
 static char side_name(int64_t side) {
     return side == RAVINEBOWL_SIDE_A ? 'A' : 'B';
 }
@@ -65,9 +82,7 @@ static void print_sides(const int64_t *result) {
     printf("\n");
 }
 
-static void compare(const int32_t *a, size_t a_length, const int32_t *b, size_t b_length, uint32_t allowance) {
-    int64_t result[RAVINEBOWL_COMPARE_LENGTH];
-    struct ravinebowl_status status = ravinebowl_compare(a, a_length, b, b_length, allowance, result, COUNT(result));
+static void print_comparison(struct ravinebowl_status status, const int64_t *result) {
     if (status.code != RAVINEBOWL_ANSWERED) {
         print_refusal(status);
     } else if (result[RAVINEBOWL_COMPARE_KIND] == RAVINEBOWL_DONE) {
@@ -82,6 +97,19 @@ static void compare(const int32_t *a, size_t a_length, const int32_t *b, size_t 
         printf("\n");
         print_sides(result);
     }
+}
+
+static void compare(const int32_t *a, size_t a_length, const int32_t *b, size_t b_length, uint32_t allowance) {
+    int64_t result[RAVINEBOWL_COMPARE_LENGTH];
+    struct ravinebowl_status status = ravinebowl_compare(a, a_length, b, b_length, allowance, result, COUNT(result));
+    print_comparison(status, result);
+}
+
+static void compare_records(const int32_t *records, size_t length, int32_t a_start, int32_t b_start) {
+    int64_t result[RAVINEBOWL_COMPARE_LENGTH];
+    struct ravinebowl_status status =
+        ravinebowl_compare_records(records, length, a_start, b_start, RAVINEBOWL_ENOUGH_STEPS, result, COUNT(result));
+    print_comparison(status, result);
 }
 
 static void mismatch(const int32_t *a, size_t a_length, const int32_t *b, size_t b_length) {
@@ -141,6 +169,11 @@ int main(void) {
     compare(CLOCKWISE, COUNT(CLOCKWISE), SQUARE, COUNT(SQUARE), 4);
     compare(STAR, COUNT(STAR), SQUARE, COUNT(SQUARE), RAVINEBOWL_ENOUGH_STEPS);
     compare(SQUARE, COUNT(SQUARE), NULL, 0, RAVINEBOWL_ENOUGH_STEPS);
+    compare_records(RECORDS, COUNT(RECORDS), 3, 6);
+    compare_records(RECORDS, COUNT(RECORDS), 3, 0);
+    compare_records(RECORDS, COUNT(RECORDS), 3, 7);
+    compare_records(RECORDS, COUNT(RECORDS) - 1, 3, 6);
+    compare_records(RING, COUNT(RING), 1, 1);
     mismatch(SQUARE, COUNT(SQUARE), TRIANGLE, COUNT(TRIANGLE));
     mismatch(CLOCKWISE, COUNT(CLOCKWISE), SQUARE, COUNT(SQUARE));
     mismatch(SQUARE, COUNT(SQUARE), MOVED, COUNT(MOVED));

@@ -1,7 +1,9 @@
 //! Calls Ravinebowl from Rust. example.c makes the same calls and prints the same lines.
 mod ravinebowl;
 
-use ravinebowl::{Comparison, CornerGap, NearestPoint, ENOUGH_STEPS, MISMATCH_UNITS};
+use ravinebowl::{
+    Comparison, CornerGap, NearestPoint, Refusal, ENOUGH_STEPS, MISMATCH_UNITS, RECORD_LENGTH,
+};
 
 const SQUARE: [i32; 8] = [0, 0, 4, 0, 4, 4, 0, 4];
 const TRIANGLE: [i32; 6] = [0, 0, 4, 0, 0, 4];
@@ -9,6 +11,20 @@ const CLOCKWISE: [i32; 6] = [0, 0, 0, 4, 4, 0];
 const MOVED: [i32; 8] = [10, 0, 14, 0, 14, 4, 10, 4];
 const STAR: [i32; 10] = [0, 3, -2, -3, 3, 1, -3, 1, 2, -3];
 const WEDGE: [i32; 6] = [0, 0, 9, 0, 0, 3];
+
+/// The square from record 3 on and the triangle from record 6 on, their last corner in one record. Record 0 is not read.
+const RECORDS: [[i32; RECORD_LENGTH]; 7] = [
+    [7, 7, 7],
+    [4, 4, 4],
+    [4, 0, 4],
+    [0, 0, 5],
+    [0, 4, 0],
+    [4, 0, 1],
+    [0, 0, 2],
+];
+
+/// Record 1 is followed by itself.
+const RING: [[i32; RECORD_LENGTH]; 2] = [[7, 7, 7], [0, 0, 1]];
 
 fn nearest_text(nearest: NearestPoint) -> String {
     format!(
@@ -36,8 +52,8 @@ fn print_sides(a: Option<CornerGap>, b: Option<CornerGap>) {
     println!("  of B: {}", shown_text(b));
 }
 
-fn compare(a: &[i32], b: &[i32], allowance: u32) {
-    match ravinebowl::compare(a, b, allowance) {
+fn print_comparison(comparison: Result<Comparison, Refusal>) {
+    match comparison {
         Err(refusal) => println!("{refusal}"),
         Ok(Comparison::Done {
             steps,
@@ -65,6 +81,19 @@ fn compare(a: &[i32], b: &[i32], allowance: u32) {
             print_sides(worst_a, worst_b);
         }
     }
+}
+
+fn compare(a: &[i32], b: &[i32], allowance: u32) {
+    print_comparison(ravinebowl::compare(a, b, allowance));
+}
+
+fn compare_records(records: &[i32], a_start: i32, b_start: i32) {
+    print_comparison(ravinebowl::compare_records(
+        records,
+        a_start,
+        b_start,
+        ENOUGH_STEPS,
+    ));
 }
 
 fn mismatch(a: &[i32], b: &[i32]) {
@@ -113,6 +142,12 @@ fn main() {
     compare(&CLOCKWISE, &SQUARE, 4);
     compare(&STAR, &SQUARE, ENOUGH_STEPS);
     compare(&SQUARE, &[], ENOUGH_STEPS);
+    let records = RECORDS.as_flattened();
+    compare_records(records, 3, 6);
+    compare_records(records, 3, 0);
+    compare_records(records, 3, 7);
+    compare_records(&records[..records.len() - 1], 3, 6);
+    compare_records(RING.as_flattened(), 1, 1);
     mismatch(&SQUARE, &TRIANGLE);
     mismatch(&CLOCKWISE, &SQUARE);
     mismatch(&SQUARE, &MOVED);

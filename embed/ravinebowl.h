@@ -13,9 +13,14 @@
  * Strictly left of an edge from (px, py) to (qx, qy) is a point (x, y) for which (qx - px) * (y - py) - (qy - py) * (x - px) is above 0,
  * and strictly right one for which it is below 0.
  *
+ * Records. Comparing takes outlines from a store of linked records too: a list of three numbers for each record, x, y and the index of the
+ * next record, so that record i has the numbers 3 * i to 3 * i + 2. Record 0 is never a corner and is not read; index 0 ends a chain. The
+ * records from a start index on are the corners of an outline: corner 0 is the record at the start, corner 1 the next of the chain, and so
+ * on. What is said here of the list of an outline goes for these corners in their order. Chains may share records or be the same.
+ *
  * Orientation. Comparing, the mismatch sum and the nearest point take outlines of either orientation, removing a corner takes
  * counterclockwise ones alone. Every number of a corner or an edge, in a result and in the place of a refusal, is its number in the list as
- * given: edge i joins corner i to the following one, whichever way round the list goes.
+ * given, or along the chain, never a record's index: edge i joins corner i to the following one, whichever way round the list goes.
  *
  * What a caller must see to. A pointer must be aligned, and good for as many numbers as the count says; a list that is empty may have any
  * pointer. A list that is written (`result`, `out`) must not overlap another list of the same call. Lists that are only read may overlap or
@@ -41,11 +46,14 @@ extern "C" {
 #define RAVINEBOWL_LARGEST_COORDINATE 16000
 #define RAVINEBOWL_ENOUGH_STEPS 512
 
+/* How many numbers a record has. */
+#define RAVINEBOWL_RECORD_LENGTH 3
+
 /* Stands in a result list where a place does not apply. X and Y can be -1 too: whether there is a point goes by the side (places 4, 14 and
  * 23 of a comparison). */
 #define RAVINEBOWL_ABSENT (-1)
 
-/* The code of a status. 1 to 9 are refusals; where several apply, the first in the order that a call names stands. */
+/* The code of a status. 1 to 12 are refusals; where several apply, the first in the order that a call names stands. */
 enum ravinebowl_code {
     RAVINEBOWL_ANSWERED = 0,             /* the call answered; a comparison that is spent is an answer too */
     RAVINEBOWL_ODD_LENGTH = 1,           /* the list has an odd length */
@@ -59,6 +67,10 @@ enum ravinebowl_code {
     RAVINEBOWL_POINT_OUT_OF_RANGE = 7,   /* the point is out of range */
     RAVINEBOWL_NO_SUCH_CORNER = 8,       /* no corner has that number */
     RAVINEBOWL_WRONG_LENGTH = 9,         /* the list to write is not exactly as long as what remains */
+    RAVINEBOWL_PARTIAL_RECORD = 10,      /* the length of the store is not a multiple of 3; always of side A */
+    RAVINEBOWL_CHAIN_TOO_LONG = 11,      /* 256 corners of a chain are read and the next index is not 0; place: 256, the corners read */
+    RAVINEBOWL_NO_SUCH_RECORD = 12,      /* an index of a chain, its start too, is negative, or neither 0 nor below the number of records;
+                                          * place: how many corners are read so far */
     RAVINEBOWL_WRONG_RESULT_LENGTH = 100 /* the result list does not have the length that the call asks for: judged before all else */
 };
 
@@ -69,7 +81,7 @@ enum ravinebowl_side { RAVINEBOWL_NO_SIDE = 0, RAVINEBOWL_SIDE_A = 1, RAVINEBOWL
 struct ravinebowl_status {
     uint32_t code;   /* enum ravinebowl_code */
     uint32_t side;   /* enum ravinebowl_side: the outline that is refused, where there are two */
-    uint32_t places; /* how many place numbers the refusal has: 0, 1 (a corner's) or 2 (an edge's and a corner's) */
+    uint32_t places; /* how many place numbers the refusal has: 0, 1 (a corner's, or how many are read) or 2 (an edge's and a corner's) */
     size_t first;    /* the first place number, or 0 where there is none */
     size_t second;   /* the second place number, or 0 where there is none */
 };
@@ -92,7 +104,7 @@ enum ravinebowl_nearest_place {
     RAVINEBOWL_NEAREST_LENGTH = 7
 };
 
-/* The places of the result list of ravinebowl_compare, and its length.
+/* The places of the result list of ravinebowl_compare and ravinebowl_compare_records, and its length.
  * Done: places 4 to 12 have the answer, the corner of greatest gap. Spent: they have the worst so far, the greatest gap found in the steps
  * made, which is never above the answer's; where there is none yet place 4 is 0 and places 5 to 12 are -1. A comparison that is spent cannot
  * be continued: call again with more steps. A support corner is the corner of an outline that the sweep has come to; it goes
@@ -155,6 +167,13 @@ enum ravinebowl_mismatch_place {
  * Order: 100, then 1 to 6 for A, then 1 to 6 for B. */
 struct ravinebowl_status ravinebowl_compare(const int32_t *a, size_t a_length, const int32_t *b, size_t b_length, uint32_t allowance,
                                             int64_t *result, size_t result_length);
+
+/* Compares as ravinebowl_compare does, with the same 32 numbers, the outlines of two chains in one store of linked records: A's starts at
+ * index `a_start`, B's at `b_start`. `records_length` counts numbers, not records. A start of 0 is an outline without corners, which gets 2.
+ * Order: 100, then 10, then of A 11 and 12 as each index is met, 11 where both apply, at the end of the chain 2 to 6, and then the same of
+ * B. 1 and 3 do not come: a chain of more than 256 corners, and one that comes back to a record, gets 11. */
+struct ravinebowl_status ravinebowl_compare_records(const int32_t *records, size_t records_length, int32_t a_start, int32_t b_start,
+                                                    uint32_t allowance, int64_t *result, size_t result_length);
 
 /* Finds the mismatch sum of outlines A and B, each of either orientation, and writes 1 number to `result`: over every corner of each outline
  * its gap, the squared distance to the nearest point of the other, 0 in it, brought down to a whole number of units of 1/1024 square

@@ -1,7 +1,7 @@
 //! Ravinebowl from Rust: a safe wrapper of the C functions, which ravinebowl.h describes. No function panics, whatever it is handed.
 //! Comparing, the mismatch sum and the nearest point take outlines of either orientation, removing a corner takes counterclockwise ones
 //! alone. The numbers of corners and edges are those of the list as given: edge i joins corner i to the following one, whichever way round
-//! the list goes.
+//! the list goes. Comparing takes outlines from chains of linked records too, whose corners are numbered along the chain.
 
 use std::fmt;
 
@@ -9,7 +9,7 @@ use std::fmt;
 #[repr(C)]
 #[derive(Clone, Copy, Debug, PartialEq, Eq)]
 pub struct Status {
-    /// 0: it answered. 1 to 9: the number of a refusal. 100: the result list has the wrong length.
+    /// 0: it answered. 1 to 12: the number of a refusal. 100: the result list has the wrong length.
     pub code: u32,
     /// 0: none. 1: A. 2: B.
     pub side: u32,
@@ -26,6 +26,15 @@ extern "C" {
         a_length: usize,
         b: *const i32,
         b_length: usize,
+        allowance: u32,
+        result: *mut i64,
+        result_length: usize,
+    ) -> Status;
+    fn ravinebowl_compare_records(
+        records: *const i32,
+        records_length: usize,
+        a_start: i32,
+        b_start: i32,
         allowance: u32,
         result: *mut i64,
         result_length: usize,
@@ -70,6 +79,9 @@ const CLEARANCE_PLACE: usize = 13;
 
 /// A number of steps that is enough for any comparison.
 pub const ENOUGH_STEPS: u32 = 512;
+
+/// How many numbers a record has.
+pub const RECORD_LENGTH: usize = 3;
 
 /// How many units of a mismatch sum make a square millimetre.
 pub const MISMATCH_UNITS: u64 = 1024;
@@ -143,7 +155,7 @@ pub enum Comparison {
     },
 }
 
-/// The place of a refusal.
+/// The place of a refusal. `At`: a corner; of 11 and 12, how many corners of the chain are read.
 #[derive(Clone, Copy, Debug, PartialEq, Eq)]
 pub enum Place {
     Nowhere,
@@ -251,6 +263,28 @@ pub fn compare_into(a: &[i32], b: &[i32], allowance: u32, result: &mut [i64]) ->
     }
 }
 
+/// As `compare_records`, with the numbers written to `result`, as those of `compare_into`.
+pub fn compare_records_into(
+    records: &[i32],
+    a_start: i32,
+    b_start: i32,
+    allowance: u32,
+    result: &mut [i64],
+) -> Status {
+    // SAFETY: as above.
+    unsafe {
+        ravinebowl_compare_records(
+            records.as_ptr(),
+            records.len(),
+            a_start,
+            b_start,
+            allowance,
+            result.as_mut_ptr(),
+            result.len(),
+        )
+    }
+}
+
 /// As `mismatch`, with the number written to `result`, whose length must be `MISMATCH_LENGTH`.
 pub fn mismatch_into(a: &[i32], b: &[i32], result: &mut [i64]) -> Status {
     // SAFETY: as above.
@@ -312,16 +346,14 @@ fn corner_gap(result: &[i64; COMPARE_LENGTH], place: usize) -> Option<CornerGap>
     })
 }
 
-/// Compares two outlines, each of either orientation, in at most `allowance` steps.
-pub fn compare(a: &[i32], b: &[i32], allowance: u32) -> Result<Comparison, Refusal> {
-    let mut result = [0; COMPARE_LENGTH];
-    compare_into(a, b, allowance, &mut result).answered()?;
-    let [kind, steps, support_a, support_b, ..] = result;
+/// The comparison that the numbers of a result list give.
+fn comparison(result: &[i64; COMPARE_LENGTH]) -> Comparison {
+    let [kind, steps, support_a, support_b, ..] = *result;
     let steps = steps as u32;
-    let worst = corner_gap(&result, WORST_PLACE);
-    let worst_a = corner_gap(&result, WORST_A_PLACE);
-    let worst_b = corner_gap(&result, WORST_B_PLACE);
-    Ok(match (kind, worst, worst_a, worst_b) {
+    let worst = corner_gap(result, WORST_PLACE);
+    let worst_a = corner_gap(result, WORST_A_PLACE);
+    let worst_b = corner_gap(result, WORST_B_PLACE);
+    match (kind, worst, worst_a, worst_b) {
         (0, Some(answer), Some(answer_a), Some(answer_b)) => Comparison::Done {
             steps,
             answer,
@@ -337,7 +369,28 @@ pub fn compare(a: &[i32], b: &[i32], allowance: u32) -> Result<Comparison, Refus
             worst_a,
             worst_b,
         },
-    })
+    }
+}
+
+/// Compares two outlines, each of either orientation, in at most `allowance` steps.
+pub fn compare(a: &[i32], b: &[i32], allowance: u32) -> Result<Comparison, Refusal> {
+    let mut result = [0; COMPARE_LENGTH];
+    compare_into(a, b, allowance, &mut result).answered()?;
+    Ok(comparison(&result))
+}
+
+/// Compares, as `compare` does, the outlines of two chains of linked records, which start at the indexes `a_start` and `b_start`. `records`
+/// has `RECORD_LENGTH` numbers for each record: x, y and the index of the next. Record 0 is never a corner and index 0 ends a chain. The
+/// chains may share records or be the same.
+pub fn compare_records(
+    records: &[i32],
+    a_start: i32,
+    b_start: i32,
+    allowance: u32,
+) -> Result<Comparison, Refusal> {
+    let mut result = [0; COMPARE_LENGTH];
+    compare_records_into(records, a_start, b_start, allowance, &mut result).answered()?;
+    Ok(comparison(&result))
 }
 
 /// The mismatch sum of two outlines, each of either orientation: over every corner of each its gap to the other, brought down to a

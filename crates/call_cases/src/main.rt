@@ -1,23 +1,20 @@
-// `read_outline`, `read_outline_strict`, `nearest_point`, `remove_corner`, `mismatch` and the four C functions on
-// generated cases (`pairs` runs `compare`). The input has the number of cases, and for each the
-// length of A's list and its numbers, the length of B's list and its numbers, and nine numbers, which `Given`
-// names. Each call prints one line. `tests/call_cases.py` writes the input and, by another way, what is to be
+// `read_outline`, `read_outline_strict`, `nearest_point`, `remove_corner`, `mismatch` and the four C functions over lists on
+// generated cases (`pairs` runs `compare`, and `record_cases` what takes linked records). The input has the number of
+// cases, and for each the length of A's list and its numbers, the length of B's list and its numbers, and nine numbers,
+// which `Given` names. Each call prints one line. `tests/call_cases.py` writes the input and, by another way, what is to be
 // printed.
 mod c_functions;
 mod rattle_calls;
 mod report;
 
 use case_input::LONGEST;
+use case_lines::status::LONGEST_RESULT;
+use case_lines::status::RESULT_FILL;
 use libc::STDIN_FILENO;
 use plane::Corner;
 
 // What stands at every place of a list to write before a call.
 const FILL: i32 = 77;
-
-const RESULT_FILL: i64 = 77;
-
-// A longer result list than any call asks for.
-const LONGEST_RESULT: usize = 40;
 
 // The numbers of a case beside its lists, and the place in the input after them. A corner number is there in two parts.
 struct Given {

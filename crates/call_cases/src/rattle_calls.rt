@@ -7,6 +7,7 @@
 // A refusal stands after the first word, as `refused NUMBER [PLACE..]`, with the side before the number where there are
 // two outlines; in removing the list to write follows it.
 use crate::report;
+use case_lines::print_natural;
 use mismatch::MismatchAnswer;
 use nearest::NearestAnswer;
 use outline::Orientation;
@@ -69,7 +70,7 @@ pub fn remove(a: &[i32], corner: usize, out: &mut [i32]) {
 pub fn mismatch(a: &[i32], b: &[i32]) {
     print::text(b"mismatch");
     match calls::mismatch(a, b) {
-        MismatchAnswer::Summed(sum) => report::print_natural(sum),
+        MismatchAnswer::Summed(sum) => print_natural(sum),
         MismatchAnswer::Refused(refusal) => report::print_refusal(refusal),
     }
     print::text(b"\n");

@@ -1,21 +1,12 @@
 // The parts of the lines. Each part of a line but the first has a space before it.
-use encoding::status::Status;
+use case_lines::print_natural;
+use case_lines::print_signed;
 use nearest::NearestPoint;
 use outline::MOST;
 use outline::Outline;
 use outline::Refusal;
 use plane::Corner;
 use text::output::Text;
-
-pub fn print_natural(n: u64) {
-    print::text(b" ");
-    print::natural(n);
-}
-
-fn print_signed(n: i64) {
-    print::text(b" ");
-    print::signed(n);
-}
 
 pub fn print_refusal(refusal: Refusal) {
     print::write(answer_text::refusal(Text::empty().bytes(b" "), refusal));
@@ -49,15 +40,6 @@ pub fn print_nearest(found: NearestPoint) {
     print::write(answer_text::point(t.bytes(b" "), point));
 }
 
-pub fn print_status(name: &[u8], status: Status) {
-    print::text(name);
-    print_natural(status.code as u64);
-    print_natural(status.side as u64);
-    print_natural(status.places as u64);
-    print_natural(status.first as u64);
-    print_natural(status.second as u64);
-}
-
 fn print_all(s: &[i32]) {
     for i in 0..s.len() {
         print_coordinate(s[i]);
@@ -68,18 +50,5 @@ fn print_all(s: &[i32]) {
 pub fn print_coordinates(s: &[i32]) {
     print::text(b" list");
     print_all(s);
-    print::text(b"\n");
-}
-
-fn print_numbers(s: &[i64]) {
-    for i in 0..s.len() {
-        print_signed(s[i]);
-    }
-}
-
-// Ends a line with a result list.
-pub fn print_result(s: &[i64]) {
-    print::text(b" list");
-    print_numbers(s);
     print::text(b"\n");
 }

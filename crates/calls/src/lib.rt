@@ -17,6 +17,8 @@ use plane::Corner;
 use projection::answers;
 use reading::checks;
 use reading::corners;
+use reading::corners::no_numbers;
+use records::ChainsVerdict;
 ghost use mathlib.Core.Path.{_≡_};
 ghost use Rattle.outline.specs.declared.RefusedSide.the-variants.{NoSide};
 ghost use Rattle.outline.specs.EitherReading.{IsEitherReading};
@@ -29,6 +31,8 @@ ghost use Rattle.nearest.specs.Call.{IsNearestAnswer};
 ghost use Rattle.nearest.specs.code.Call.{nearestAnswer};
 ghost use Rattle.hausdorff.specs.code.Call.{checkPair, comparison};
 ghost use Rattle.hausdorff.specs.Call.{IsComparison};
+ghost use Rattle.records.specs.Call.{IsRecordsComparison};
+ghost use Rattle.records.specs.code.Call.{recordsComparison};
 ghost use Rattle.mismatch.specs.Call.{IsMismatchAnswer};
 ghost use Rattle.mismatch.specs.code.Call.{mismatchAnswer};
 
@@ -114,6 +118,23 @@ pub fn compare(a: &[i32], b: &[i32], allowance: u32) -> Comparison
             let report = comparing::compare(a, of_a, b, of_b, allowance);
             Comparison::Reported(report)
         }
+    }
+}
+
+// Compares the outlines of two chains of linked records, which start at the indexes `a_start` and `b_start`, each in
+// either orientation, in at most `allowance` steps. The store has three numbers for each record: x, y and the index of
+// the next record. Record 0 is never a corner, and index 0 ends a chain. Corners, edges and places are numbered along the
+// chains.
+// Refusal 10, of A, for a store whose length is no multiple of three; then 11, 12 and 2 to 6 for A, then the same for B.
+pub fn compare_records(store: &[i32], a_start: i32, b_start: i32, allowance: u32) -> Comparison
+    ensures answer { λ r. ⌜ r ≡ recordsComparison (now (store .entry)) «a_start» «b_start» allowance ⌝ }
+    ensures rules { λ r. ⌜ IsRecordsComparison (now (store .entry)) «a_start» «b_start» allowance r ⌝ }
+{
+    let mut a = no_numbers();
+    let mut b = no_numbers();
+    match traversal::read_chains(store, a_start, b_start, &mut a, &mut b) {
+        ChainsVerdict::Refused(refusal) => Comparison::Refused(refusal),
+        ChainsVerdict::Ended(n, m) => compare(&a[..n], &b[..m], allowance),
     }
 }
 

@@ -113,6 +113,17 @@ pub fn at_most(most: usize, n: u32) -> usize
     if n < most { n } else { most }
 }
 
+// As many numbers as a list has places, read to it. Gives the place in the input after them.
+pub fn read_items(s: &[u8], from: usize, items: &mut [i32]) -> usize {
+    let mut next = from;
+    for i in 0..items.len() {
+        let item = read_number(s, next);
+        items[i] = value(item);
+        next = item.next;
+    }
+    next
+}
+
 // A list of the input: how many numbers it has, and these.
 pub fn read_list(s: &[u8], from: usize) -> List
     ensures { λ r. ⌜ r .count ≤ length (r .items) ⌝ }
@@ -120,11 +131,6 @@ pub fn read_list(s: &[u8], from: usize) -> List
     let length = read_number(s, from);
     let count = at_most(LONGEST, length.size);
     let mut items = [0; LONGEST];
-    let mut next = length.next;
-    for i in 0..count {
-        let item = read_number(s, next);
-        items[i] = value(item);
-        next = item.next;
-    }
+    let next = read_items(s, length.next, &mut items[..count]);
     List { count, items, next }
 }

@@ -1,4 +1,3 @@
 -- Laws of editing.
 pub mod Without
-pub mod Writing
 pub mod Removal

@@ -2,17 +2,15 @@
 use outline::Place;
 use outline::RefusedSide;
 use outline::Verdict;
-use plane::Corner;
 use reading::checks;
 use reading::checks::TOO_FEW;
 use reading::corners;
 use reading::refusals::refuse;
 ghost use mathlib.Core.Path.{_≡_};
-ghost use Prim.Native.Nat.{_+_, _*_, _^_, _<_};
-ghost use lib.ListN.{length};
+ghost use Prim.Native.Nat.{_+_, _^_, _<_};
 ghost use Rattle.plane.specs.Vector.{coordinates};
 ghost use Rattle.outline.specs.Corners.{corners};
-ghost use Rattle.edit.specs.code.Writing.{oldNumber, Removable, putCorner};
+ghost use Rattle.edit.specs.code.Writing.{oldNumber, Removable};
 ghost use Rattle.edit.specs.Removal.{without};
 ghost use Rattle.edit.specs.code.Removal.{checkRemoval};
 
@@ -23,17 +21,6 @@ const SMALLEST: usize = 3;
 const NO_SUCH_CORNER: u32 = 8;
 
 const WRONG_LENGTH: u32 = 9;
-
-// Writes a corner's coordinates to a list, as its corner j.
-fn put_corner(out: &mut [i32], j: usize, c: Corner)
-    requires { ⌜ 2 * j + 1 < length (now out) ⌝ }
-    ensures { λ _. ⌜ now (out .exit) ≡ putCorner (now (out .entry)) j c ⌝ }
-{
-    let x = c.x;
-    let y = c.y;
-    out[2 * j] = x;
-    out[2 * j + 1] = y;
-}
 
 // The number in the longer list of the corner that has number i once corner k is gone.
 fn old_number(k: usize, i: usize) -> usize
@@ -71,7 +58,7 @@ pub fn write_without(s: &[i32], k: usize, out: &mut [i32])
     let rest = corners::count(s) - 1;
     let mut i = 0;
     while i < rest {
-        put_corner(out, i, corners::corner(s, old_number(k, i)));
+        corners::put_corner(out, i, corners::corner(s, old_number(k, i)));
         i += 1;
     }
 }

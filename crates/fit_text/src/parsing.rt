@@ -1,6 +1,8 @@
 // From the bytes of the input to what comparing its two outlines gives.
 use hausdorff::Comparison;
 use outline::MOST;
+use reading::corners::MOST_NUMBERS;
+use reading::corners::no_numbers;
 use text::input;
 use text::input::Next;
 use text::input::Parsed;
@@ -14,9 +16,6 @@ ghost use Rattle.fit_text.specs.code.Input.{asGiven, countOf};
 
 // How many steps are allowed: every comparison is done with so many.
 const ALLOWANCE: u32 = 512;
-
-// How many numbers an outline has at the most.
-const MOST_NUMBERS: usize = 2 * MOST;
 
 // What a text gives for an outline: how many numbers, and the place after them; a count above 256; or what cannot
 // be read.
@@ -76,13 +75,6 @@ fn too_many() -> [i32; MOST_NUMBERS + 2]
     ensures { λ r. ⌜ r ≡ tooMany ⌝ }
 {
     [0; MOST_NUMBERS + 2]
-}
-
-// Room for the numbers of an outline. The contract has its length alone, not the list of all the zeros.
-fn no_numbers() -> [i32; MOST_NUMBERS]
-    ensures { λ r. ⌜ 2 * most ≡ length r ⌝ }
-{
-    [0; MOST_NUMBERS]
 }
 
 // What the text from a place on gives where the numbers of A are read: B's count and numbers, and nothing after them.

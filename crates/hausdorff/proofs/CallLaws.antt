@@ -1,4 +1,6 @@
 -- The call that compares, as its callers see it.
+--     verdict-refused, comparisonFor-refused    the verdict on a pair, by what the first check that refuses gives, and what
+--                                 the call gives, by the verdict
 --     pair-refused, pair-taken    the checks refuse with the refusal of the first condition that applies, and take two
 --                                 lists with the orientations with which they are accepted
 --     pair-fault                  the first condition that applies is A's, or A is accepted and it is B's
@@ -73,6 +75,22 @@ both-accepted ps qs ok-a ok-b A = ok-a
 both-accepted ps qs ok-a ok-b B = ok-b
 
 module _ (s t : List ℤ) where
+  -- the verdict on a pair, by what the first check that refuses gives
+  pub verdict-refused : (v : Verdict) (r : Refusal) → (pairVerdictFor s t v ≡ PairVerdict.Refused r) ↔ (v ≡ Verdict.Refused r)
+  verdict-refused Verdict.Taken r = (λ e. cc, λ e. cc)
+  verdict-refused (Verdict.Refused q) r = (λ e. cc, λ e. cc)
+
+  verdict-taken : (v : Verdict) (o q : Orientation) → (pairVerdictFor s t v ≡ PairVerdict.Taken o q)
+      ↔ ((v ≡ Verdict.Taken) × (orientationOf (corners s) ≡ o) × (orientationOf (corners t) ≡ q))
+  verdict-taken Verdict.Taken o q = (λ e. (refl, cc, cc), λ (_, of-a, of-b). λ i. PairVerdict.Taken (of-a i) (of-b i))
+  verdict-taken (Verdict.Refused r) o q = (λ e. (cc, cc, cc), λ h. cc)
+
+  -- and what the call gives, by the verdict
+  pub comparisonFor-refused : (allowance : ℕ) (v : PairVerdict) (r : Refusal)
+      → (comparisonFor s t allowance v ≡ Refused r) ↔ (v ≡ PairVerdict.Refused r)
+  comparisonFor-refused allowance (PairVerdict.Taken o q) r = (λ e. cc, λ e. cc)
+  comparisonFor-refused allowance (PairVerdict.Refused q) r = (λ e. cc, λ e. cc)
+
   decide : AllDecide (pairChecks s t) (pairConditions s t)
   decide =
       decide-append (eitherChecks (Of A) s) (eitherChecks (Of B) t) (eitherConditions (Of A) s) (eitherConditions (Of B) t)
@@ -81,11 +99,8 @@ module _ (s t : List ℤ) where
   pub pair-refused : (r : Refusal) → (checkPair s t ≡ PairVerdict.Refused r) ↔ FirstFault (pairConditions s t) r
   unfolding checkPair
   pair-refused r =
-      Iff·trans (by-first (first (pairChecks s t))) (first-refused (pairChecks s t) (pairConditions s t) decide r)
-    where
-      by-first : (v : Verdict) → (pairVerdictFor s t v ≡ PairVerdict.Refused r) ↔ (v ≡ Verdict.Refused r)
-      by-first Verdict.Taken = (λ e. cc, λ e. cc)
-      by-first (Verdict.Refused q) = (λ e. cc, λ e. cc)
+      Iff·trans (verdict-refused (first (pairChecks s t)) r)
+      (first-refused (pairChecks s t) (pairConditions s t) decide r)
 
   none-of-both : NoneApplies (pairConditions s t)
       ↔ (AcceptedAs (orientationOf (corners s)) s × AcceptedAs (orientationOf (corners t)) t)
@@ -97,7 +112,7 @@ module _ (s t : List ℤ) where
   -- the first three corners of an accepted list tell its orientation
   pub pair-taken : (o q : Orientation) → (checkPair s t ≡ PairVerdict.Taken o q) ↔ (AcceptedAs o s × AcceptedAs q t)
   unfolding checkPair
-  pair-taken o q = Iff·trans (by-first (first (pairChecks s t))) (
+  pair-taken o q = Iff·trans (verdict-taken (first (pairChecks s t)) o q) (
     λ (takes, of-a, of-b). rw (of-a, of-b) at (none-of-both .0 (taken .0 takes)),
     λ (ok-a, ok-b).
         let of-a = accepted-orientation o s ok-a in let of-b = accepted-orientation q t ok-b in
@@ -106,11 +121,6 @@ module _ (s t : List ℤ) where
     where
       taken : (first (pairChecks s t) ≡ Verdict.Taken) ↔ NoneApplies (pairConditions s t)
       taken = first-taken (pairChecks s t) (pairConditions s t) decide
-
-      by-first : (v : Verdict) → (pairVerdictFor s t v ≡ PairVerdict.Taken o q)
-          ↔ ((v ≡ Verdict.Taken) × (orientationOf (corners s) ≡ o) × (orientationOf (corners t) ≡ q))
-      by-first Verdict.Taken = (λ e. (refl, cc, cc), λ (_, of-a, of-b). λ i. PairVerdict.Taken (of-a i) (of-b i))
-      by-first (Verdict.Refused r) = (λ e. (cc, cc, cc), λ h. cc)
 
   -- that is: a refusal of A's list, or A's list is accepted and it is one of B's
   pub pair-fault : (r : Refusal) → FirstFault (pairConditions s t) r
@@ -167,11 +177,7 @@ module _ (s t : List ℤ) (allowance : ℕ) where
 
   -- it is refused exactly with the refusal of the first condition that applies
   pub compare-refuses : (r : Refusal) → (comparison s t allowance ≡ Refused r) ↔ FirstFault (pairConditions s t) r
-  compare-refuses r = Iff·trans (by-checks (checkPair s t)) (pair-refused s t r)
-    where
-      by-checks : (v : PairVerdict) → (comparisonFor s t allowance v ≡ Refused r) ↔ (v ≡ PairVerdict.Refused r)
-      by-checks (PairVerdict.Taken o q) = (λ e. cc, λ e. cc)
-      by-checks (PairVerdict.Refused q) = (λ e. cc, λ e. cc)
+  compare-refuses r = Iff·trans (comparisonFor-refused s t allowance (checkPair s t) r) (pair-refused s t r)
 
   -- some condition applies, or both lists are accepted
   pub is-comparison : IsComparison s t allowance (comparison s t allowance)

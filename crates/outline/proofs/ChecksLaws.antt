@@ -8,7 +8,7 @@
 --     Scanning, scan-start, scanning             the invariant of a loop that makes them in order, and its steps
 --     Testing, test-start, testing               the same where each check is made by a test
 --     first-stops, first-goes-on, first-last     a list of checks, one after the other
---     append-stops, append-goes-on               two lists
+--     first-append, append-stops, append-goes-on    two lists
 use Prim.Native.Nat.{ℕ, _+_, _<_, _≤_}
 use mathlib.Core.Path.{_≡_, refl, sym, ap, _∙_}
 use mathlib.Core.Logic.{_↔_, Iff·trans, _≢_, _⊎_, inl, inr, ⊎-elim}
@@ -155,7 +155,7 @@ first-goes-on v w is takes rest = sym (orElse-goes-on (sym is ∙ takes) (sym re
 pub first-last : {u : Verdict} (v : Verdict) → u ≡ v → u ≡ v orElse Taken
 first-last v is = is ∙ sym (first-one v)
 
-first-append : (vs ws : List Verdict) → first (vs ++ ws) ≡ first vs orElse first ws
+pub first-append : (vs ws : List Verdict) → first (vs ++ ws) ≡ first vs orElse first ws
 first-append [] ws = refl
 first-append (v ∷ vs) ws = ap (λ (x : Verdict). v orElse x) (first-append vs ws) ∙ orElse-assoc v (first vs) (first ws)
   where

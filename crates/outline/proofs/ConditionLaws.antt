@@ -8,11 +8,14 @@
 --     first-refused, first-taken    the checks refuse with the refusal of the first condition that applies, and take
 --                                   where none does
 --     decide-append, none-append, fault-append    of two lists, one after the other
+--     AllApplying, applying-append, fault-applying    what holds of the number of each condition that applies holds of a
+--                                   refusal's
 --     allNumbers, fault-number      a test that each condition's number passes, a refusal's passes
 --     nowhere-plain                 a condition without a place that applies nowhere
 --     lowest-none                   one with a number applies nowhere exactly where no number below n passes its test
 -- A check that decides a condition:
 --     test-decides                  without a place, by a test
+--     place-decides                 with one known number, by a test
 --     lowest-decides                with a number, by a test at each number below n
 --     edges-decide                  with an edge and a corner, by a test at each corner for each edge
 --     tests-taken, edges-taken      these checks take exactly where nothing fails its test
@@ -112,20 +115,37 @@ fault-append (c ∷ cs) ds r = (
       (λ ((none, all), second). inr (none, fault-append cs ds r .1 (inr (all, second)))) h,
 )
 
--- a test that the number of each condition passes, a refusal's number passes
+-- what holds of the number of each condition that applies holds of a refusal's
+abbrev pub AllApplying : (ℕ → Type 0) → List Condition → Type 0
+AllApplying P [] = Unit {0}
+AllApplying P (c ∷ cs) = (Applies c → P (c .number)) × AllApplying P cs
+
+pub applying-append : (P : ℕ → Type 0) (cs ds : List Condition)
+    → AllApplying P cs → AllApplying P ds → AllApplying P (cs ++ ds)
+applying-append P [] ds all more = more
+applying-append P (c ∷ cs) ds (here, rest) more = (here, applying-append P cs ds rest more)
+
+pub fault-applying : (P : ℕ → Type 0) (cs : List Condition) (r : Refusal) → AllApplying P cs → FirstFault cs r
+    → P (r .number)
+fault-applying P [] r all fault = absurd fault
+fault-applying P (c ∷ cs) r (here, rest) fault = ⊎-elim
+    (λ (p, applies, is). subst (λ (q : Refusal). P (q .number)) is (here (p, applies)))
+    (λ (none, later). fault-applying P cs r rest later) fault
+
+-- so a test that the number of each condition passes, a refusal's number passes
 abbrev pub allNumbers : (ℕ → Bool) → List Condition → Bool
 allNumbers test [] = true
 allNumbers test (c ∷ cs) = test (c .number) && allNumbers test cs
 
 pub fault-number : (test : ℕ → Bool) (cs : List Condition) (r : Refusal)
     → allNumbers test cs ≡ true → FirstFault cs r → test (r .number) ≡ true
-fault-number test [] r all fault = absurd fault
-fault-number test (c ∷ cs) r all fault =
-    let (here, rest) = test-and (test (c .number)) (allNumbers test cs) (λ e. e, λ e. e) (λ e. e, λ e. e) .0 all in
-    ⊎-elim
-    (λ (p, applies, is). subst (λ (q : Refusal). test (q .number) ≡ true) is here)
-    (λ (none, later). fault-number test cs r rest later)
-    fault
+fault-number test cs r all fault = fault-applying (λ n. test n ≡ true) cs r (each-number cs all) fault
+  where
+    each-number : (cs : List Condition) → allNumbers test cs ≡ true → AllApplying (λ n. test n ≡ true) cs
+    each-number [] all = tt
+    each-number (c ∷ cs) all =
+        let (here, rest) = test-and (test (c .number)) (allNumbers test cs) (λ e. e, λ e. e) (λ e. e, λ e. e) .0 all in
+        (λ _. here, each-number cs rest)
 
 -- ---- a condition that applies nowhere, by what it says of the place
 pub nowhere-plain : {P : Type 0} → ¬ P → ¬ ((p : Place) × withoutPlace P p)
@@ -176,14 +196,20 @@ module _ {P : ℕ → Type 0} (t : ℕ → Bool) (means : (i : ℕ) → (t i ≡
 -- ---- checks that decide a condition
 module _ (number : ℕ) (whose : RefusedSide) where
   module _ {P : Type 0} (b : Bool) (means : (b ≡ true) ↔ P) where
-    abbrev plain : Condition
-    plain = record { number = number; side = whose; applies = withoutPlace P }
+    abbrev known : Place → Condition
+    known here = record { number = number; side = whose; applies = λ p. (p ≡ here) × P }
 
-    pub test-decides : Decides (refuseIf b (refusal plain Nowhere)) plain
-    test-decides r = Iff·trans (refuseIf-refused b means (refusal plain Nowhere) r) (
-      λ (is, holds). (Nowhere, (refl, holds), is),
-      λ (p, (here, holds), is). (rw here at is, holds),
+    known-decides : (here : Place) → Decides (refuseIf b (refusal (known here) here)) (known here)
+    known-decides here r = Iff·trans (refuseIf-refused b means (refusal (known here) here) r) (
+      λ (is, holds). (here, (refl, holds), is),
+      λ (p, (at, holds), is). (rw at at is, holds),
     )
+
+    pub test-decides : Decides (refuseIf b (refusal (known Nowhere) Nowhere)) (known Nowhere)
+    test-decides = known-decides Nowhere
+
+    pub place-decides : (i : ℕ) → Decides (refuseIf b (refusal (known (At i)) (At i))) (known (At i))
+    place-decides i = known-decides (At i)
 
   module _ {P : ℕ → Type 0} (t : ℕ → Bool) (means : (i : ℕ) → (t i ≡ true) ↔ P i) (n : ℕ) where
     abbrev numbered : Condition

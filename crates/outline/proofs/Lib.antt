@@ -1,5 +1,6 @@
--- Laws of reading: the corners of a list, checks made in order, and what is accepted.
+-- Laws of reading: the corners of a list, corners written to one, checks made in order, and what is accepted.
 pub mod CornersLaws
+pub mod WritingLaws
 pub mod EdgeLaws
 pub mod ChecksLaws
 pub mod ConditionLaws

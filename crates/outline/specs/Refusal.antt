@@ -18,6 +18,10 @@ pub record Condition : Type 1 where
 abbrev pub withoutPlace : Type 0 → Place → Type 0
 withoutPlace P p = (p ≡ Nowhere) × P
 
+-- P holds; the place is the number i
+abbrev pub atPlace : ℕ → Type 0 → Place → Type 0
+atPlace i P p = (p ≡ At i) × P
+
 -- the place is one number, of which P holds
 abbrev pub atNumber : (ℕ → Type 0) → Place → Type 0
 atNumber P p = (i : ℕ) × (p ≡ At i) × P i

@@ -2,6 +2,7 @@
 pub mod Polygon
 pub mod Held
 pub mod Unfilled
+pub mod Writing
 pub mod Checks
 pub mod Turns
 pub mod Reading

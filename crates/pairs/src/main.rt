@@ -1,9 +1,8 @@
 // Generated pairs of lists, compared through the public call with several allowances each. For each pair the input
 // has the length of A's list and its numbers, the length of B's list and its numbers, and the number of allowances
-// and these. Each comparison prints one line. `tests/pairs.py` writes the input and, by another way, what is to be
-// printed.
-mod report;
-
+// and these. Each comparison prints one line (`case_lines::comparison`). `tests/pairs.py` writes the input and, by another
+// way, what is to be printed.
+use case_lines::comparison;
 use libc::STDIN_FILENO;
 
 // Compares two lists with each of the allowances, which stand at a place of the input. Gives the place after them.
@@ -12,7 +11,7 @@ fn compare_each(s: &[u8], from: usize, a: &[i32], b: &[i32]) -> usize {
     let mut next = count.next;
     for _ in 0..count.size {
         let allowance = case_input::read_number(s, next);
-        report::print_comparison(calls::compare(a, b, allowance.size));
+        comparison::print_comparison(calls::compare(a, b, allowance.size));
         next = allowance.next;
     }
     next

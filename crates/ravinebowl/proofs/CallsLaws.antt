@@ -1,10 +1,10 @@
 -- What the calls return and leave in a result list, by its length and by what the wrapped call answers.
---     compare-wrong, nearest-wrong, mismatch-wrong    the result list has the wrong length
---     compare-right, nearest-right, mismatch-right    it has the right length, and this is answered
+--     length-wrong, length-right    the result list has the wrong length, or the right one
+--     answered-alike                comparing chains is answered as comparing the lists of their corners
 -- Where the code is not that of an answer, no list was written:
---     NotAnswered, compare-kept, nearest-kept, removal-kept, mismatch-kept
+--     NotAnswered, compare-kept, records-kept, nearest-kept, mismatch-kept, removal-kept
 -- The code of a refusal is neither that of an answer nor that of a wrong length:
---     CodeApart, compare-code, nearest-code, removal-code, mismatch-code
+--     CodeApart, compare-code, records-code, nearest-code, removal-code, mismatch-code
 use Prim.Native.Nat.{ℕ, _<_}
 use mathlib.Core.Path.{_≡_, refl}
 use mathlib.Core.Bool.{Bool, true, false, cond}
@@ -39,8 +39,12 @@ use Rattle.mismatch.proofs.CallLaws.{mismatch-refuses}
 use Rattle.encoding.specs.declared.status.Status.{Status}
 use Rattle.encoding.specs.Status.{answered, wrongResultLength, refusedStatus}
 use Rattle.encoding.proofs.StatusLaws.{refused-code}
-use Rattle.ravinebowl.specs.Calls.{compareLength, statusOfComparison, listOfComparison, compareStatus}
-use Rattle.ravinebowl.specs.Calls.{compareList}
+use Rattle.records.specs.Conditions.{recordsConditions}
+use Rattle.records.specs.code.Call.{recordsComparison}
+use Rattle.records.proofs.CallLaws.{records-refuses}
+use Rattle.ravinebowl.specs.Calls.{statusFor, listFor}
+use Rattle.ravinebowl.specs.Calls.{compareLength, statusOfComparison, listOfComparison, compareStatus, compareList}
+use Rattle.ravinebowl.specs.Calls.{compareRecordsStatus, compareRecordsList}
 use Rattle.ravinebowl.specs.Calls.{nearestLength, statusOfNearest, listOfNearest, nearestStatus, nearestList}
 use Rattle.ravinebowl.specs.Calls.{mismatchLength, statusOfMismatch, listOfMismatch, mismatchStatus, mismatchList}
 use Rattle.ravinebowl.specs.Calls.{statusOfVerdict, removalStatus}
@@ -48,69 +52,70 @@ use Rattle.ravinebowl.specs.Calls.{statusOfVerdict, removalStatus}
 abbrev pub NotAnswered : Status → Type 0
 NotAnswered status = status .code ≢ answered .code
 
--- by the length of the result list
-kept-by-length : (status : Status) {list before : List ℤ} (long : Bool) → (NotAnswered status → list ≡ before)
-    → NotAnswered (cond long status wrongResultLength) → cond long list before ≡ before
-kept-by-length status true by-answer not = by-answer not
-kept-by-length status false by-answer not = refl
+-- a call whose result list must have a length, by that and by what it answers
+module _ {X : Type 0} (long : ℕ) (statusOf : X → Status) (listOf : X → List ℤ → List ℤ) (answer : X) (result : List ℤ) where
+  pub length-wrong : length result ≢ long
+      → (statusFor long statusOf answer result ≡ wrongResultLength) × (listFor long listOf answer result ≡ result)
+  length-wrong other = let test = ne-eqb (length result) long other in (rw test, rw test)
 
-module _ (s t : List ℤ) (allowance : ℕ) (result : List ℤ) where
-  pub compare-wrong : length result ≢ compareLength
-      → (compareStatus s t allowance result ≡ wrongResultLength) × (compareList s t allowance result ≡ result)
-  unfolding compareStatus compareList
-  compare-wrong other = let test = ne-eqb (length result) compareLength other in (rw test, rw test)
+  pub length-right : length result ≡ long → {x : X} → answer ≡ x
+      → (statusFor long statusOf answer result ≡ statusOf x) × (listFor long listOf answer result ≡ listOf x result)
+  length-right same is = let test = eq-eqb (length result) long same in (rw (test, is), rw (test, is))
 
-  pub compare-right : length result ≡ compareLength → {answer : Comparison} → comparison s t allowance ≡ answer
-      → (compareStatus s t allowance result ≡ statusOfComparison answer)
-      × (compareList s t allowance result ≡ listOfComparison answer result)
-  unfolding compareStatus compareList
-  compare-right same is = let test = eq-eqb (length result) compareLength same in (rw (test, is), rw (test, is))
-
-  pub compare-kept : NotAnswered (compareStatus s t allowance result) → compareList s t allowance result ≡ result
-  unfolding compareStatus compareList
-  compare-kept = kept-by-length _ (eqb (length result) compareLength) (by-answer (comparison s t allowance))
+  -- where what is no answer leaves the list as it was, so does the call
+  length-kept : ((x : X) → NotAnswered (statusOf x) → listOf x result ≡ result)
+      → NotAnswered (statusFor long statusOf answer result) → listFor long listOf answer result ≡ result
+  length-kept by-answer = go (eqb (length result) long)
     where
-      by-answer : (answer : Comparison) → NotAnswered (statusOfComparison answer) → listOfComparison answer result ≡ result
-      by-answer (Refused r) not = refl
-      by-answer (Reported q) not = absurd (not refl)
+      go : (right : Bool) → NotAnswered (cond right (statusOf answer) wrongResultLength)
+          → cond right (listOf answer result) result ≡ result
+      go true not = by-answer answer not
+      go false not = refl
 
-module _ (x y : ℤ) (s result : List ℤ) where
-  pub nearest-wrong : length result ≢ nearestLength
-      → (nearestStatus x y s result ≡ wrongResultLength) × (nearestList x y s result ≡ result)
-  unfolding nearestStatus nearestList
-  nearest-wrong other = let test = ne-eqb (length result) nearestLength other in (rw test, rw test)
+-- two chains and two lists that are compared alike are answered alike
+pub answered-alike : (p q s : List ℤ) (a b : ℤ) (allowance : ℕ) (result : List ℤ)
+    → comparison p q allowance ≡ recordsComparison s a b allowance
+    → (compareStatus p q allowance result ≡ compareRecordsStatus s a b allowance result)
+    × (compareList p q allowance result ≡ compareRecordsList s a b allowance result)
+unfolding compareStatus compareList compareRecordsStatus compareRecordsList
+answered-alike p q s a b allowance result same = (rw same, rw same)
 
-  pub nearest-right : length result ≡ nearestLength → {answer : NearestAnswer} → nearestAnswer (record { x = x; y = y }) s ≡ answer
-      → (nearestStatus x y s result ≡ statusOfNearest answer) × (nearestList x y s result ≡ listOfNearest answer result)
-  unfolding nearestStatus nearestList
-  nearest-right same is = let test = eq-eqb (length result) nearestLength same in (rw (test, is), rw (test, is))
+-- a comparison that is refused leaves the list as it was
+comparison-kept : (result : List ℤ) (answer : Comparison) → NotAnswered (statusOfComparison answer)
+    → listOfComparison answer result ≡ result
+comparison-kept result (Refused r) not = refl
+comparison-kept result (Reported q) not = absurd (not refl)
 
-  pub nearest-kept : NotAnswered (nearestStatus x y s result) → nearestList x y s result ≡ result
-  unfolding nearestStatus nearestList
-  nearest-kept = kept-by-length _ (eqb (length result) nearestLength) (by-answer (nearestAnswer (record { x = x; y = y }) s))
-    where
-      by-answer : (answer : NearestAnswer) → NotAnswered (statusOfNearest answer) → listOfNearest answer result ≡ result
-      by-answer (NearestAnswer.Refused r) not = refl
-      by-answer (NearestAnswer.Found a) not = absurd (not refl)
+pub compare-kept : (s t : List ℤ) (allowance : ℕ) (result : List ℤ) → NotAnswered (compareStatus s t allowance result)
+    → compareList s t allowance result ≡ result
+unfolding compareStatus compareList
+compare-kept s t allowance result =
+    length-kept compareLength statusOfComparison listOfComparison (comparison s t allowance) result (comparison-kept result)
 
-module _ (s t result : List ℤ) where
-  pub mismatch-wrong : length result ≢ mismatchLength
-      → (mismatchStatus s t result ≡ wrongResultLength) × (mismatchList s t result ≡ result)
-  unfolding mismatchStatus mismatchList
-  mismatch-wrong other = let test = ne-eqb (length result) mismatchLength other in (rw test, rw test)
+pub records-kept : (s : List ℤ) (a b : ℤ) (allowance : ℕ) (result : List ℤ)
+    → NotAnswered (compareRecordsStatus s a b allowance result) → compareRecordsList s a b allowance result ≡ result
+unfolding compareRecordsStatus compareRecordsList
+records-kept s a b allowance result =
+    length-kept compareLength statusOfComparison listOfComparison (recordsComparison s a b allowance) result
+    (comparison-kept result)
 
-  pub mismatch-right : length result ≡ mismatchLength → {answer : MismatchAnswer} → mismatchAnswer s t ≡ answer
-      → (mismatchStatus s t result ≡ statusOfMismatch answer) × (mismatchList s t result ≡ listOfMismatch answer result)
-  unfolding mismatchStatus mismatchList
-  mismatch-right same is = let test = eq-eqb (length result) mismatchLength same in (rw (test, is), rw (test, is))
+pub nearest-kept : (x y : ℤ) (s result : List ℤ) → NotAnswered (nearestStatus x y s result) → nearestList x y s result ≡ result
+unfolding nearestStatus nearestList
+nearest-kept x y s result =
+    length-kept nearestLength statusOfNearest listOfNearest (nearestAnswer (record { x = x; y = y }) s) result by-answer
+  where
+    by-answer : (answer : NearestAnswer) → NotAnswered (statusOfNearest answer) → listOfNearest answer result ≡ result
+    by-answer (NearestAnswer.Refused r) not = refl
+    by-answer (NearestAnswer.Found a) not = absurd (not refl)
 
-  pub mismatch-kept : NotAnswered (mismatchStatus s t result) → mismatchList s t result ≡ result
-  unfolding mismatchStatus mismatchList
-  mismatch-kept = kept-by-length _ (eqb (length result) mismatchLength) (by-answer (mismatchAnswer s t))
-    where
-      by-answer : (answer : MismatchAnswer) → NotAnswered (statusOfMismatch answer) → listOfMismatch answer result ≡ result
-      by-answer (MismatchAnswer.Refused r) not = refl
-      by-answer (MismatchAnswer.Summed m) not = absurd (not refl)
+pub mismatch-kept : (s t result : List ℤ) → NotAnswered (mismatchStatus s t result) → mismatchList s t result ≡ result
+unfolding mismatchStatus mismatchList
+mismatch-kept s t result =
+    length-kept mismatchLength statusOfMismatch listOfMismatch (mismatchAnswer s t) result by-answer
+  where
+    by-answer : (answer : MismatchAnswer) → NotAnswered (statusOfMismatch answer) → listOfMismatch answer result ≡ result
+    by-answer (MismatchAnswer.Refused r) not = refl
+    by-answer (MismatchAnswer.Summed m) not = absurd (not refl)
 
 pub removal-kept : (s : List ℤ) (k : ℕ) (out : List ℤ) → NotAnswered (removalStatus s k out) → listAfter s k out ≡ out
 removal-kept s k out = by-verdict (removalVerdict s k out) _
@@ -125,6 +130,11 @@ CodeApart r = (answered .code < refusedStatus r .code) × (refusedStatus r .code
 
 pub compare-code : (s t : List ℤ) (allowance : ℕ) (r : Refusal) → comparison s t allowance ≡ Refused r → CodeApart r
 compare-code s t allowance r is = refused-code (pairConditions s t) r refl (compare-refuses s t allowance r .0 is)
+
+pub records-code : (s : List ℤ) (a b : ℤ) (allowance : ℕ) (r : Refusal) → recordsComparison s a b allowance ≡ Refused r
+    → CodeApart r
+records-code s a b allowance r is =
+    refused-code (recordsConditions s a b) r refl (records-refuses s a b allowance r .0 is)
 
 pub nearest-code : (v : Corner) (s : List ℤ) (r : Refusal) → nearestAnswer v s ≡ NearestAnswer.Refused r → CodeApart r
 nearest-code v s r is = refused-code (nearestConditions v s) r refl (nearest-refuses v s r .0 is)

@@ -1,4 +1,4 @@
--- Rules 9.1 to 9.8 and 9.10: what each call returns, and what it leaves in the list that it may write.
+-- Rules 9.1 to 9.8, 9.10 and 9.11: what each call returns, and what it leaves in the list that it may write.
 use Prim.Native.Nat.{ℕ}
 use mathlib.Core.Bool.{cond}
 use mathlib.Core.List.{List}
@@ -17,6 +17,7 @@ use Rattle.hausdorff.specs.code.Call.{comparison}
 use Rattle.mismatch.specs.declared.MismatchAnswer.{MismatchAnswer}
 use Rattle.mismatch.specs.declared.MismatchAnswer.the-variants as MismatchAnswer
 use Rattle.mismatch.specs.code.Call.{mismatchAnswer}
+use Rattle.records.specs.code.Call.{recordsComparison}
 use Rattle.encoding.specs.declared.status.Status.{Status}
 use Rattle.encoding.specs.Status.{answered, wrongResultLength, refusedStatus}
 use Rattle.encoding.specs.Results.{ofNearest, ofReport, ofSum}
@@ -25,7 +26,7 @@ use Rattle.encoding.specs.Results.{ofNearest, ofReport, ofSum}
 abbrev pub nearestLength : ℕ
 nearestLength = 7
 
--- how long the result list of comparing must be (rule 9.5)
+-- how long the result list of comparing must be (rules 9.5 and 9.11)
 abbrev pub compareLength : ℕ
 compareLength = 32
 
@@ -33,9 +34,13 @@ compareLength = 32
 abbrev pub mismatchLength : ℕ
 mismatchLength = 1
 
--- one value where the result list has the right length, another where not: that is judged before anything else
-abbrev pub ifOfLength : {X : Type 0} → List ℤ → ℕ → X → X → X
-ifOfLength result long right wrong = cond (eqb (length result) long) right wrong
+-- the status of a call whose result list must have a length, which is judged before anything else, by what it answers
+abbrev pub statusFor : {X : Type 0} → ℕ → (X → Status) → X → List ℤ → Status
+statusFor long statusOf answer result = cond (eqb (length result) long) (statusOf answer) wrongResultLength
+
+-- what such a call leaves in the result list
+abbrev pub listFor : {X : Type 0} → ℕ → (X → List ℤ → List ℤ) → X → List ℤ → List ℤ
+listFor long listOf answer result = cond (eqb (length result) long) (listOf answer result) result
 
 -- the status, by what comparing answers; being spent is no refusal
 abbrev pub statusOfComparison : Comparison → Status
@@ -49,11 +54,21 @@ listOfComparison (Reported q) before = ofReport q
 
 -- the status that `ravinebowl_compare` returns
 unfoldable pub compareStatus : List ℤ → List ℤ → ℕ → List ℤ → Status
-compareStatus s t allowance result = ifOfLength result compareLength (statusOfComparison (comparison s t allowance)) wrongResultLength
+compareStatus s t allowance result = statusFor compareLength statusOfComparison (comparison s t allowance) result
 
 -- what it leaves in the result list
 unfoldable pub compareList : List ℤ → List ℤ → ℕ → List ℤ → List ℤ
-compareList s t allowance result = ifOfLength result compareLength (listOfComparison (comparison s t allowance) result) result
+compareList s t allowance result = listFor compareLength listOfComparison (comparison s t allowance) result
+
+-- the status that `ravinebowl_compare_records` returns
+unfoldable pub compareRecordsStatus : List ℤ → ℤ → ℤ → ℕ → List ℤ → Status
+compareRecordsStatus s a b allowance result =
+    statusFor compareLength statusOfComparison (recordsComparison s a b allowance) result
+
+-- what it leaves in the result list
+unfoldable pub compareRecordsList : List ℤ → ℤ → ℤ → ℕ → List ℤ → List ℤ
+compareRecordsList s a b allowance result =
+    listFor compareLength listOfComparison (recordsComparison s a b allowance) result
 
 -- the status, by what the call for the nearest point answers
 abbrev pub statusOfNearest : NearestAnswer → Status
@@ -67,11 +82,11 @@ listOfNearest (NearestAnswer.Found a) before = ofNearest a
 
 -- the status that `ravinebowl_nearest_point` returns
 unfoldable pub nearestStatus : ℤ → ℤ → List ℤ → List ℤ → Status
-nearestStatus x y s result = ifOfLength result nearestLength (statusOfNearest (nearestAnswer (record { x = x; y = y }) s)) wrongResultLength
+nearestStatus x y s result = statusFor nearestLength statusOfNearest (nearestAnswer (record { x = x; y = y }) s) result
 
 -- what it leaves in the result list
 unfoldable pub nearestList : ℤ → ℤ → List ℤ → List ℤ → List ℤ
-nearestList x y s result = ifOfLength result nearestLength (listOfNearest (nearestAnswer (record { x = x; y = y }) s) result) result
+nearestList x y s result = listFor nearestLength listOfNearest (nearestAnswer (record { x = x; y = y }) s) result
 
 -- the status, by what the call for the mismatch sum answers
 abbrev pub statusOfMismatch : MismatchAnswer → Status
@@ -85,11 +100,11 @@ listOfMismatch (MismatchAnswer.Summed m) before = ofSum m
 
 -- the status that `ravinebowl_mismatch` returns
 unfoldable pub mismatchStatus : List ℤ → List ℤ → List ℤ → Status
-mismatchStatus s t result = ifOfLength result mismatchLength (statusOfMismatch (mismatchAnswer s t)) wrongResultLength
+mismatchStatus s t result = statusFor mismatchLength statusOfMismatch (mismatchAnswer s t) result
 
 -- what it leaves in the result list
 unfoldable pub mismatchList : List ℤ → List ℤ → List ℤ → List ℤ
-mismatchList s t result = ifOfLength result mismatchLength (listOfMismatch (mismatchAnswer s t) result) result
+mismatchList s t result = listFor mismatchLength listOfMismatch (mismatchAnswer s t) result
 
 -- the status, by what removing a corner answers
 abbrev pub statusOfVerdict : Verdict → Status

@@ -15,14 +15,17 @@ use nearest::NearestAnswer;
 use outline::Side;
 use outline::Verdict;
 use plane::Corner;
+use reading::corners::no_numbers;
+use records::ChainsVerdict;
 ghost use mathlib.Core.Path.{_≡_};
 ghost use Prim.Native.Nat.{_+_, _≤_};
 ghost use lib.ListN.{length};
 ghost use lib.Seq.{paste};
 ghost use Rattle.hausdorff.specs.code.Sizes.{ReportFits};
 ghost use Rattle.encoding.specs.Results.{ofReport};
-ghost use Rattle.ravinebowl.specs.Calls.{compareLength, compareStatus, compareList, nearestStatus, nearestList};
-ghost use Rattle.ravinebowl.specs.Calls.{removalStatus, mismatchStatus, mismatchList};
+ghost use Rattle.ravinebowl.specs.Calls.{compareLength, compareStatus, compareList};
+ghost use Rattle.ravinebowl.specs.Calls.{compareRecordsStatus, compareRecordsList};
+ghost use Rattle.ravinebowl.specs.Calls.{nearestStatus, nearestList, removalStatus, mismatchStatus, mismatchList};
 ghost use Rattle.edit.specs.code.Removal.{listAfter};
 
 // Copies numbers to a list, from a place on.
@@ -70,6 +73,32 @@ pub extern "C" fn ravinebowl_compare(
             write_report(report, result);
             status::answered()
         }
+    }
+}
+
+// Compares the outlines of two chains of linked records, which start at the indexes `a_start` and `b_start` of the store
+// `records`, in at most `allowance` steps, and writes 32 numbers to `result`, as `ravinebowl_compare` does. A `result` of
+// another length is judged first; then 10, of A; then 11, 12 and 2 to 6 for A, then for B. The lists of the chains go to
+// `ravinebowl_compare`, so that `comparing::compare` has one caller and is compiled into it (docs/DECISIONS.md).
+#[no_mangle]
+pub extern "C" fn ravinebowl_compare_records(
+    records: &[i32],
+    a_start: i32,
+    b_start: i32,
+    allowance: u32,
+    result: &mut [i64],
+) -> Status
+    ensures status { λ r. ⌜ r ≡ compareRecordsStatus (now (records .entry)) «a_start» «b_start» allowance (now (result .entry)) ⌝ }
+    ensures list { λ _. ⌜ now (result .exit) ≡ compareRecordsList (now (records .entry)) «a_start» «b_start» allowance (now (result .entry)) ⌝ }
+{
+    if result.len() != COMPARE_LENGTH {
+        return status::wrong_result_length();
+    }
+    let mut a = no_numbers();
+    let mut b = no_numbers();
+    match traversal::read_chains(records, a_start, b_start, &mut a, &mut b) {
+        ChainsVerdict::Refused(refusal) => status::refused(refusal),
+        ChainsVerdict::Ended(n, m) => ravinebowl_compare(&a[..n], &b[..m], allowance, result),
     }
 }
 

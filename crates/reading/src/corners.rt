@@ -1,15 +1,26 @@
-// The corners that a list of numbers gives, and the value that holds them.
+// The corners that a list of numbers gives, a corner written to a list, and the value that holds an outline.
 use outline::MOST;
 use outline::Orientation;
 use outline::Outline;
 use plane::Corner;
 ghost use mathlib.Core.Path.{_≡_};
-ghost use Prim.Native.Nat.{_<_, _≤_};
+ghost use Prim.Native.Nat.{_+_, _*_, _<_, _≤_};
 ghost use mathlib.Core.List.{[]};
 ghost use lib.ListN.{length};
 ghost use Rattle.outline.specs.Corners.{corners, corner, next, previous, held, most};
 ghost use Rattle.outline.specs.Orientation.{asHeld, givenCorner, givenEdge};
 ghost use Rattle.outline.specs.code.Unfilled.{unfilled};
+ghost use Rattle.outline.specs.code.Writing.{putCorner};
+
+// How many numbers the list of an outline has at the most.
+pub const MOST_NUMBERS: usize = 2 * MOST;
+
+// Room for the numbers of an outline. The contract has its length alone, not the list of all the zeros.
+pub fn no_numbers() -> [i32; MOST_NUMBERS]
+    ensures { λ r. ⌜ 2 * most ≡ length r ⌝ }
+{
+    [0; MOST_NUMBERS]
+}
 
 // How many corners a list gives.
 pub fn count(s: &[i32]) -> usize
@@ -27,6 +38,17 @@ pub fn corner(s: &[i32], i: usize) -> Corner
         x: s[2 * i],
         y: s[2 * i + 1],
     }
+}
+
+// Writes a corner's coordinates to a list, as its corner j.
+pub fn put_corner(out: &mut [i32], j: usize, c: Corner)
+    requires { ⌜ 2 * j + 1 < length (now out) ⌝ }
+    ensures { λ _. ⌜ now (out .exit) ≡ putCorner (now (out .entry)) j c ⌝ }
+{
+    let x = c.x;
+    let y = c.y;
+    out[2 * j] = x;
+    out[2 * j + 1] = y;
 }
 
 // The number of the corner that follows corner i of n.

@@ -25,9 +25,11 @@ use Rattle.hausdorff.specs.Support.{firstStart, passAll}
 use Rattle.hausdorff.specs.code.Sweep.{measured, worstAfter}
 use Rattle.hausdorff.specs.code.Report.{report}
 use Rattle.hausdorff.specs.code.Call.{checkPair}
+use Rattle.records.specs.Chain.{records, walkFrom}
+use Rattle.records.specs.code.Call.{checkRecords}
 use Rattle.worked.specs.Cases.{All, cases, S, T, star, straight, clockwise, straightBack, twice, wedge, moved}
 use Rattle.worked.specs.Cases.{turned, low, high, S3, T3, upward, downward, square, squareBack, squareMoved, flat}
-use Rattle.worked.specs.Cases.{tall, kite, kiteBack, thin, wide, needle, long, longBent, short, shortBent}
+use Rattle.worked.specs.Cases.{tall, kite, kiteBack, thin, wide, needle, long, longBent, short, shortBent, store}
 
 pub claim : All cases
 unfolding inRange _⇀_ cross dot same fold corners next checkRange checkRepeated checkEdge checkConvex check checkPair
@@ -35,6 +37,7 @@ unfolding inRange _⇀_ cross dot same fold corners next checkRange checkRepeate
     rootBy precedes insert sort angularOrder liesAt isCounted firstStart passAll measured worstAfter report
     orientationOf givenCorner checkEitherConvex checkEither isConvex wholeUnits
     S T star straight clockwise straightBack twice wedge moved turned low high S3 T3 upward downward
-    square squareBack squareMoved flat tall kite kiteBack thin wide needle long longBent short shortBent
+    square squareBack squareMoved flat tall kite kiteBack thin wide needle long longBent short shortBent store
+    records walkFrom checkRecords
 claim =
-    (refl, (refl, (refl, (refl, (refl, (refl, (refl, (refl, (refl, (refl, (refl, (refl, ((refl, refl), ((refl, refl), ((refl, refl), ((refl, refl), ((refl, refl), (refl, (refl, (refl, (refl, (refl, (refl, (refl, (refl, (refl, (refl, (refl, (refl, (refl, (refl, (refl, (refl, (refl, (refl, (refl, (refl, (refl, (refl, (refl, (refl, (refl, (refl, (refl, (refl, (refl, (refl, (refl, (refl, (refl, (refl, (refl, (refl, (refl, (refl, (refl, (refl, (refl, (refl, (refl, (refl, (refl, (refl, (refl, (refl, (refl, (refl, (refl, (refl, (refl, (refl, (refl, (refl, ((refl, refl, refl), ((refl, refl, refl), ((refl, refl, refl), ((refl, refl, refl), ((refl, refl, refl), ((refl, refl, refl), ((refl, refl, refl), (refl, (refl, (refl, (refl, (refl, (refl, (refl, (refl, (refl, (refl, (refl, (refl, (refl, (refl, (refl, tt)))))))))))))))))))))))))))))))))))))))))))))))))))))))))))))))))))))))))))))))))))))))))))))))
+    (refl, (refl, (refl, (refl, (refl, (refl, (refl, (refl, (refl, (refl, (refl, (refl, ((refl, refl), ((refl, refl), ((refl, refl), ((refl, refl), ((refl, refl), (refl, (refl, (refl, (refl, (refl, (refl, (refl, (refl, (refl, (refl, (refl, (refl, (refl, (refl, (refl, (refl, (refl, (refl, (refl, (refl, (refl, (refl, (refl, (refl, (refl, (refl, (refl, (refl, (refl, (refl, (refl, (refl, (refl, (refl, (refl, (refl, (refl, (refl, (refl, (refl, (refl, (refl, (refl, (refl, (refl, (refl, (refl, (refl, (refl, (refl, (refl, (refl, (refl, (refl, (refl, (refl, ((refl, refl, refl), ((refl, refl, refl), ((refl, refl, refl), ((refl, refl, refl), ((refl, refl, refl), ((refl, refl, refl), ((refl, refl, refl), (refl, (refl, (refl, (refl, (refl, (refl, (refl, (refl, (refl, (refl, (refl, (refl, (refl, (refl, (refl, (refl, (refl, (refl, (refl, (refl, (refl, (refl, (refl, (refl, (refl, (refl, (refl, (refl, (refl, (refl, (refl, tt)))))))))))))))))))))))))))))))))))))))))))))))))))))))))))))))))))))))))))))))))))))))))))))))))))))))))))))))

@@ -10,7 +10,7 @@ use Rattle.outline.specs.declared.Orientation.the-variants.{Counterclockwise, C
 use Rattle.outline.specs.declared.Refusal.{Refusal}
 use Rattle.outline.specs.declared.Verdict.{Verdict}
 use Rattle.outline.specs.declared.Verdict.the-variants.{Taken, Refused}
-use Rattle.outline.specs.declared.Place.the-variants.{Nowhere, EdgeAndCorner}
+use Rattle.outline.specs.declared.Place.the-variants.{Nowhere, At, EdgeAndCorner}
 use Rattle.outline.specs.declared.RefusedSide.{RefusedSide}
 use Rattle.outline.specs.declared.RefusedSide.the-variants.{NoSide, Of}
 use Rattle.outline.specs.code.Either.{orientationOf, heldCorners, eitherReading}
@@ -40,6 +40,7 @@ use Rattle.hausdorff.specs.code.Call.{orientations, pairOf, comparison}
 use Rattle.mismatch.specs.declared.MismatchAnswer.{MismatchAnswer}
 use Rattle.mismatch.specs.declared.MismatchAnswer.the-variants as MismatchAnswer
 use Rattle.mismatch.specs.code.Call.{mismatchAnswer}
+use Rattle.records.specs.code.Call.{recordsComparison}
 
 -- a call, what it is handed, and what it answers
 pub data Case : Type 0 where
@@ -61,6 +62,8 @@ pub data Case : Type 0 where
   exhausts : List ℤ → List ℤ → CornerGap → CornerGap → CornerGap → Case
   -- the call for the mismatch sum of the lists ends so
   sums : List ℤ → List ℤ → MismatchAnswer → Case
+  -- comparing the outlines of two chains of a store, by their starts, with a step allowance ends so
+  comparesChains : List ℤ → ℤ → ℤ → ℕ → Comparison → Case
 
 -- a corner of two lists' outlines, by the lists as given
 abbrev named : List ℤ → List ℤ → CornerGap → CornerGap
@@ -82,6 +85,7 @@ Holds (exhausts s t in-a in-b found) =
     × (named s t (exhaustiveOf (pairOf s t) (orientations s t) B) ≡ in-b)
     × (named s t (exhaustive (pairOf s t) (orientations s t)) ≡ found)
 Holds (sums s t ends) = mismatchAnswer s t ≡ ends
+Holds (comparesChains s a b allowance ends) = recordsComparison s a b allowance ≡ ends
 
 -- each case of a list holds
 abbrev pub All : List Case → Type 0
@@ -119,6 +123,21 @@ twice = pos 0 ∷ pos 0 ∷ pos 4 ∷ pos 0 ∷ pos 0 ∷ pos 4 ∷ T
 -- the outline of the examples of the nearest point
 unfoldable pub wedge : List ℤ
 wedge = pos 0 ∷ pos 0 ∷ pos 9 ∷ pos 0 ∷ pos 0 ∷ pos 3 ∷ []
+
+-- a store of nine records. S starts at record 2 and T at record 3; both end with record 5. Record 7 is followed by itself,
+-- and record 8 by one that is not there
+unfoldable pub store : List ℤ
+store =
+    pos 16001 ∷ pos 3 ∷ pos 7
+    ∷ pos 4 ∷ pos 4 ∷ pos 5
+    ∷ pos 0 ∷ pos 0 ∷ pos 4
+    ∷ pos 0 ∷ pos 0 ∷ pos 6
+    ∷ pos 4 ∷ pos 0 ∷ pos 1
+    ∷ pos 0 ∷ pos 4 ∷ pos 0
+    ∷ pos 4 ∷ pos 0 ∷ pos 5
+    ∷ pos 9 ∷ pos 9 ∷ pos 7
+    ∷ pos 9 ∷ pos 9 ∷ pos 9
+    ∷ []
 
 -- the point (x, y)
 abbrev pub point : ℤ → ℤ → Corner
@@ -183,6 +202,14 @@ tooFew = record { number = 2; side = NoSide; place = Nowhere }
 -- refusal 7
 abbrev pointOut : Refusal
 pointOut = record { number = 7; side = NoSide; place = Nowhere }
+
+-- a refusal of a side with this number, without a place
+abbrev refusalOf : Side → ℕ → Refusal
+refusalOf side number = record { number = number; side = Of side; place = Nowhere }
+
+-- and with a place of one number
+abbrev refusalAt : Side → ℕ → ℕ → Refusal
+refusalAt side number k = record { number = number; side = Of side; place = At k }
 
 -- S, moved by (10,0)
 unfoldable pub moved : List ℤ
@@ -503,4 +530,27 @@ cases =
     ∷ sums star T (MismatchAnswer.Refused (notLeft (Of A) 0 3))
     ∷ sums S straightBack (MismatchAnswer.Refused (notLeft (Of B) 0 2))
     ∷ sums straight star (MismatchAnswer.Refused (notLeft (Of A) 0 2))
+    -- S and T from a store, both ways round, and S with itself
+    ∷ comparesChains store (pos 2) (pos 3) 3 (spent 3 2 1 None None None)
+    ∷ comparesChains store (pos 2) (pos 3) 7 (done 7 (fromS A) 3 (fromS A) (zeroth B (pos 0) (pos 0)))
+    ∷ comparesChains store (pos 3) (pos 2) 7 (done 7 (fromS B) 3 (zeroth A (pos 0) (pos 0)) (fromS B))
+    ∷ comparesChains store (pos 2) (pos 2) 8 (done 8 (zeroth A (pos 0) (pos 0)) 0 (zeroth A (pos 0) (pos 0)) (zeroth B (pos 0) (pos 0)))
+    -- a start of zero: no corners
+    ∷ comparesChains store (pos 0) (pos 0) 7 (Comparison.Refused (refusalOf A 2))
+    ∷ comparesChains store (pos 2) (pos 0) 7 (Comparison.Refused (refusalOf B 2))
+    -- a cycle
+    ∷ comparesChains store (pos 7) (pos 3) 7 (Comparison.Refused (refusalAt A 11 256))
+    ∷ comparesChains store (pos 2) (pos 7) 7 (Comparison.Refused (refusalAt B 11 256))
+    -- indexes that name no record: after a corner, the record count, a negative one
+    ∷ comparesChains store (pos 8) (pos 7) 7 (Comparison.Refused (refusalAt A 12 1))
+    ∷ comparesChains store (pos 2) (pos 9) 7 (Comparison.Refused (refusalAt B 12 0))
+    ∷ comparesChains store (negsuc 0) (pos 3) 7 (Comparison.Refused (refusalAt A 12 0))
+    -- A's chain is too short, and B's has a bad index: A's refusal stands
+    ∷ comparesChains store (pos 5) (pos 9) 7 (Comparison.Refused (refusalOf A 2))
+    -- the length is no multiple of three, whatever else applies
+    ∷ comparesChains (pos 0 ∷ store) (pos 2) (pos 3) 7 (Comparison.Refused (refusalOf A 10))
+    ∷ comparesChains (pos 0 ∷ pos 0 ∷ []) (pos 0) (pos 9) 7 (Comparison.Refused (refusalOf A 10))
+    -- an empty store
+    ∷ comparesChains [] (pos 0) (pos 1) 7 (Comparison.Refused (refusalOf A 2))
+    ∷ comparesChains [] (pos 1) (pos 0) 7 (Comparison.Refused (refusalAt A 12 0))
     ∷ []

@@ -1,25 +1,32 @@
--- `case_input::read_list` meets its contract: each index is below the count, which is at most the length of the array.
+-- `case_input::read_list` meets its contract: the count is at most the length of the array.
 use borrow.Author.Needs.{needs}
-use Prim.Native.Nat.{_-_, _≤_}
+use Prim.Native.Nat.{ℕ, _≤_}
+use mathlib.Core.List.{List}
+use mathlib.Core.Path.{_≡_, sym}
 use native.Mathlib.Omega.{arith}
-use lib.ListN.{length, length-set}
+use lib.IntN.{ℤ}
+use lib.ListN.{length, take, length-append}
+use lib.Seq.{length-take-le}
 use Rattle.case_input.proofs.read_list.Statement.{statement}
 use Rattle.case_input.proofs.read_list.Tie as tie
 
-abbrev Inv-loop : tie.InvT-loop
-Inv-loop s from count items₀ next₀ i₀ items next i = count ≤ length items
+-- as many as the first n of a list
+as-many : (n : ℕ) (l : List ℤ) {m : ℕ} → n ≤ length l → m ≡ length (take n l) → n ≤ m
+as-many n l fits same = omega (arith, same, length-take-le n l fits)
 
-abbrev μ-loop : tie.MeasureT-loop
-μ-loop s from count items₀ next₀ i₀ items next i = count - i
+slice-aggregate-read-items : tie.Need-slice-aggregate-read-items
+slice-aggregate-read-items c = sym (length-take-le _ _ (c .before .at-most .ensures))
 
-loop-again : tie.Need-loop-again Inv-loop μ-loop
-loop-again c = rw length-set (omega arith)
+returns : tie.Need-returns
+returns c =
+    let counted = c .before .before .before .at-most .ensures in
+    rw length-append (omega (arith, as-many _ _ counted (c .before .read-items .kept .1 .1 .0)))
 
 pub read-list-spec : {M : Type 1} → statement M
 read-list-spec =
     tie.close
-    (tie.spec Inv-loop μ-loop
-    (search needs) (search needs) (search needs) (search needs) (search needs) (search needs) (search needs)
-    (search needs) (search needs)
-    loop-again
-    (search needs))
+    (tie.spec
+    (search needs) (search needs) (search needs)
+    slice-aggregate-read-items
+    (search needs)
+    returns)

@@ -1,10 +1,9 @@
 -- For the code that writes the other corners.
-use Prim.Native.Nat.{ℕ, zero, suc, _+_, _*_, _<_}
+use Prim.Native.Nat.{ℕ, zero, suc, _<_}
 use mathlib.Core.Path.{_≡_}
 use mathlib.Core.List.{List}
 use lib.IntN.{ℤ}
-use lib.ListN.{length, set}
-use Rattle.plane.specs.declared.Corner.{Corner}
+use lib.ListN.{length}
 use Rattle.plane.specs.Vector.{coordinates}
 use Rattle.outline.specs.Corners.{corners}
 use Rattle.edit.specs.Removal.{without}
@@ -19,7 +18,3 @@ abbrev pub oldNumber : ℕ → ℕ → ℕ
 oldNumber zero i = suc i
 oldNumber (suc k) zero = zero
 oldNumber (suc k) (suc i) = suc (oldNumber k i)
-
--- a list with a corner written as its corner j
-abbrev pub putCorner : List ℤ → ℕ → Corner → List ℤ
-putCorner s j c = set (set s (2 * j) (c .x)) (2 * j + 1) (c .y)

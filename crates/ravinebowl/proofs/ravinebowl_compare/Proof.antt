@@ -2,9 +2,10 @@
 use borrow.Author.Needs.{needs}
 use mathlib.Core.Path.{_≡_, sym, _∙_}
 use Rattle.hausdorff.specs.declared.Comparison.{Comparison}
-use Rattle.ravinebowl.specs.Calls.{compareStatus, compareList, statusOfComparison, listOfComparison}
+use Rattle.hausdorff.specs.code.Call.{comparison}
+use Rattle.ravinebowl.specs.Calls.{compareLength, compareStatus, compareList, statusOfComparison, listOfComparison}
 use Rattle.hausdorff.proofs.Fitting.{report-fits}
-use Rattle.ravinebowl.proofs.CallsLaws.{compare-wrong, compare-right}
+use Rattle.ravinebowl.proofs.CallsLaws.{length-wrong, length-right}
 use Rattle.ravinebowl.proofs.ravinebowl_compare.Statement.{statement}
 use Rattle.ravinebowl.proofs.ravinebowl_compare.Tie as tie
 
@@ -12,11 +13,17 @@ use Rattle.ravinebowl.proofs.ravinebowl_compare.Tie as tie
 right : (c : tie.After-compare) {answer : Comparison} → c .compare .result ≡ answer → (let args = c .before .before .args in
     (compareStatus (args .a .now) (args .b .now) (args .allowance) (args .result .now) ≡ statusOfComparison answer)
     × (compareList (args .a .now) (args .b .now) (args .allowance) (args .result .now) ≡ listOfComparison answer (args .result .now)))
-right c is = compare-right _ _ _ _ (c .before .if1 .left) (sym (c .compare .ensures .0) ∙ is)
+unfolding compareStatus compareList
+right c is =
+    length-right compareLength statusOfComparison listOfComparison _ _ (c .before .if1 .left)
+    (sym (c .compare .ensures .0) ∙ is)
 
 returns : tie.Need-returns
+unfolding compareStatus compareList
 returns c =
-    let (status, list) = compare-wrong _ _ _ _ (c .before .if1 .taken) in
+    let args = c .before .before .args in
+    let (status, list) = length-wrong compareLength statusOfComparison listOfComparison
+    (comparison (args .a .now) (args .b .now) (args .allowance)) _ (c .before .if1 .taken) in
     (c .wrong-result-length .ensures ∙ sym status, sym list)
 
 write-report-requires : tie.Need-write-report-requires

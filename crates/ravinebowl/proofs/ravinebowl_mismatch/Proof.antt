@@ -4,9 +4,10 @@ use borrow.Author.Needs.{needs}
 use mathlib.Core.Path.{_≡_, sym, _∙_}
 use native.Mathlib.Omega.{arith}
 use Rattle.mismatch.specs.declared.MismatchAnswer.{MismatchAnswer}
+use Rattle.mismatch.specs.code.Call.{mismatchAnswer}
 use Rattle.mismatch.proofs.CallLaws.{mismatch-fits}
-use Rattle.ravinebowl.specs.Calls.{mismatchStatus, mismatchList, statusOfMismatch, listOfMismatch}
-use Rattle.ravinebowl.proofs.CallsLaws.{mismatch-wrong, mismatch-right}
+use Rattle.ravinebowl.specs.Calls.{mismatchLength, mismatchStatus, mismatchList, statusOfMismatch, listOfMismatch}
+use Rattle.ravinebowl.proofs.CallsLaws.{length-wrong, length-right}
 use Rattle.ravinebowl.proofs.WritingLaws.{written-whole}
 use Rattle.ravinebowl.proofs.ravinebowl_mismatch.Statement.{statement}
 use Rattle.ravinebowl.proofs.ravinebowl_mismatch.Tie as tie
@@ -15,11 +16,17 @@ use Rattle.ravinebowl.proofs.ravinebowl_mismatch.Tie as tie
 right : (c : tie.After-mismatch) {answer : MismatchAnswer} → c .mismatch .result ≡ answer → (let args = c .before .before .args in
     (mismatchStatus (args .a .now) (args .b .now) (args .result .now) ≡ statusOfMismatch answer)
     × (mismatchList (args .a .now) (args .b .now) (args .result .now) ≡ listOfMismatch answer (args .result .now)))
-right c is = mismatch-right _ _ _ (c .before .if1 .left) (sym (c .mismatch .ensures .0) ∙ is)
+unfolding mismatchStatus mismatchList
+right c is =
+    length-right mismatchLength statusOfMismatch listOfMismatch _ _ (c .before .if1 .left)
+    (sym (c .mismatch .ensures .0) ∙ is)
 
 returns : tie.Need-returns
+unfolding mismatchStatus mismatchList
 returns c =
-    let (status, list) = mismatch-wrong _ _ _ (c .before .if1 .taken) in
+    let args = c .before .before .args in
+    let (status, list) = length-wrong mismatchLength statusOfMismatch listOfMismatch
+    (mismatchAnswer (args .a .now) (args .b .now)) _ (c .before .if1 .taken) in
     (c .wrong-result-length .ensures ∙ sym status, sym list)
 
 of-sum-requires : tie.Need-of-sum-requires

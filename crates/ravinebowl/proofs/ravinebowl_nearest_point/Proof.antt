@@ -6,9 +6,10 @@ use native.Mathlib.Omega.{arith}
 use mir.Syntax.{w32}
 use mir.ValLaws.{toZ-ofZ}
 use Rattle.nearest.specs.declared.NearestAnswer.{NearestAnswer}
-use Rattle.ravinebowl.specs.Calls.{nearestStatus, nearestList, statusOfNearest, listOfNearest}
+use Rattle.nearest.specs.code.Call.{nearestAnswer}
+use Rattle.ravinebowl.specs.Calls.{nearestLength, nearestStatus, nearestList, statusOfNearest, listOfNearest}
 use Rattle.hausdorff.proofs.Fitting.{found-fits}
-use Rattle.ravinebowl.proofs.CallsLaws.{nearest-wrong, nearest-right}
+use Rattle.ravinebowl.proofs.CallsLaws.{length-wrong, length-right}
 use Rattle.ravinebowl.proofs.WritingLaws.{written-whole}
 use Rattle.ravinebowl.proofs.ravinebowl_nearest_point.Statement.{statement}
 use Rattle.ravinebowl.proofs.ravinebowl_nearest_point.Tie as tie
@@ -18,14 +19,19 @@ use Rattle.ravinebowl.proofs.ravinebowl_nearest_point.Tie as tie
 right : (c : tie.After-nearest-point) {answer : NearestAnswer} → c .nearest-point .result ≡ answer → (let args = c .before .before .args in
     (nearestStatus (args .x) (args .y) (args .outline .now) (args .result .now) ≡ statusOfNearest answer)
     × (nearestList (args .x) (args .y) (args .outline .now) (args .result .now) ≡ listOfNearest answer (args .result .now)))
+unfolding nearestStatus nearestList
 right c is =
     let start = c .before .before in
     let x = toZ-ofZ w32 (start .args .x) (start .fits .x) in let y = toZ-ofZ w32 (start .args .y) (start .fits .y) in
-    nearest-right _ _ _ _ (c .before .if1 .left) (sym (rw (x, y) at (c .nearest-point .ensures .0)) ∙ is)
+    length-right nearestLength statusOfNearest listOfNearest _ _ (c .before .if1 .left)
+    (sym (rw (x, y) at (c .nearest-point .ensures .0)) ∙ is)
 
 returns : tie.Need-returns
+unfolding nearestStatus nearestList
 returns c =
-    let (status, list) = nearest-wrong _ _ _ _ (c .before .if1 .taken) in
+    let args = c .before .before .args in
+    let (status, list) = length-wrong nearestLength statusOfNearest listOfNearest
+    (nearestAnswer (record { x = args .x; y = args .y }) (args .outline .now)) _ (c .before .if1 .taken) in
     (c .wrong-result-length .ensures ∙ sym status, sym list)
 
 of-nearest-requires : tie.Need-of-nearest-requires

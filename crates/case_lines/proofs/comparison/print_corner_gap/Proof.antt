@@ -1,8 +1,8 @@
--- `pairs::report::print_corner_gap` is safe: what is appended to a text is a text.
+-- `case_lines::comparison::print_corner_gap` is safe: what is appended to a text is a text.
 use borrow.Author.Needs.{needs}
 use Rattle.answer_text.proofs.AppendedLaws.{empty-text, longer-text}
-use Rattle.pairs.proofs.report.print_corner_gap.Statement.{statement}
-use Rattle.pairs.proofs.report.print_corner_gap.Tie as tie
+use Rattle.case_lines.proofs.comparison.print_corner_gap.Statement.{statement}
+use Rattle.case_lines.proofs.comparison.print_corner_gap.Tie as tie
 
 write-requires : tie.Need-write-requires
 write-requires c κs =

@@ -1,9 +1,10 @@
-// The lines of the program, one for each comparison:
+// The line of a comparison:
 //     refused SIDE NUMBER [PLACE..]
 //     spent STEPS A-CORNER B-CORNER WORST A-WORST B-WORST
 //     done STEPS ANSWER CLEARANCE A-ANSWER B-ANSWER
 // An ANSWER is SIDE CORNER FEATURE GAP X Y, and a WORST the same or `none`. A gap and a coordinate are fractions as they
 // are given, not reduced.
+use crate::print_natural;
 use hausdorff::Comparison;
 use hausdorff::CornerGap;
 use hausdorff::Done;
@@ -15,12 +16,6 @@ use hausdorff::SupportCorners;
 use hausdorff::WorstSoFar;
 use outline::Refusal;
 use text::output::Text;
-
-// Each part of a line but the first has a space before it.
-fn print_natural(n: u64) {
-    print::text(b" ");
-    print::natural(n);
-}
 
 fn print_corner_gap(found: CornerGap) {
     let side = found.side;

@@ -1,8 +1,8 @@
--- `pairs::report::print_refusal` is safe: what is appended to the empty text is a text.
+-- `case_lines::comparison::print_refusal` is safe: what is appended to the empty text is a text.
 use borrow.Author.Needs.{needs}
 use Rattle.answer_text.proofs.AppendedLaws.{empty-text, longer-text}
-use Rattle.pairs.proofs.report.print_refusal.Statement.{statement}
-use Rattle.pairs.proofs.report.print_refusal.Tie as tie
+use Rattle.case_lines.proofs.comparison.print_refusal.Statement.{statement}
+use Rattle.case_lines.proofs.comparison.print_refusal.Tie as tie
 
 write-requires : tie.Need-write-requires
 write-requires c κs = longer-text _ _ (c .refusal .ensures) (empty-text (c .before .empty .ensures))

@@ -1,0 +1,3 @@
+-- Laws of walking a chain.
+pub mod WalkLaws
+pub mod StopLaws

@@ -1,0 +1,2 @@
+-- Where a walk stops, for the code.
+pub mod Stop
