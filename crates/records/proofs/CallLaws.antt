@@ -8,11 +8,11 @@
 --     partial-fault, index-fault, corners-fault, fault-a, fault-b    the first condition that applies, by what it is of:
 --                                the store's length, an index, the corners of a chain that ends; A, and B where A's
 --                                outline is accepted
---     LongChain, long-fault, long-a, long-b    a chain of which 256 indexes name records and the next is not zero gets 11,
---                                with place 256
---     cycle-long                 so does every chain that comes to a cycle
---     bad-fault                  one of which fewer name records, and the next is not zero and names none, gets 12, with the
---                                number of corners as its place
+--     walk-long, walk-bad        a walk that stops at an index other than zero gets 11 after 256 corners, and 12 after fewer
+--     long-fault, bad-fault      so do 256 indexes that name records, with a next one that is not zero; and fewer, with a
+--                                next one that is not zero and names none. The place is the number of corners
+--     LongChain, long-a, long-b    the call refuses a chain of the first kind with 11 and place 256
+--     cycle-long                 every chain that comes to a cycle is one
 --     zero-fault                 a start of zero gets 2
 --     records-record-0              record 0 does not matter
 -- For the code:
@@ -20,7 +20,7 @@
 --     chains-compared            it gives what comparing gives for the lists to which two chains that end are written
 use Prim.Native.Nat.{ℕ, _%_, _<_}
 use mathlib.Core.Bool.{true, not}
-use mathlib.Core.Path.{_≡_, refl, sym, ap, _∙_}
+use mathlib.Core.Path.{_≡_, refl, sym, ap, subst, _∙_}
 use mathlib.Core.Logic.{_↔_, Iff·trans, _≢_, _⊎_, inl, inr, ⊎-elim}
 use mathlib.Core.List.{List, _∷_}
 use native.Mathlib.Omega.{arith}
@@ -58,7 +58,7 @@ use Rattle.hausdorff.specs.code.Call.{pairChecks, pairVerdictFor, checkPair, co
 use Rattle.hausdorff.proofs.CallLaws.{verdict-refused, comparisonFor-refused, is-comparison}
 use Rattle.hausdorff.proofs.CallLaws.{comparison-unique}
 use Rattle.records.specs.declared.ChainsVerdict.the-variants as ChainsVerdict
-use Rattle.records.specs.Chain.{records, walk, Ends, chainList}
+use Rattle.records.specs.Chain.{records, Walk, walkFrom, walk, Ends, chainList}
 use Rattle.records.specs.Conditions.{partialRecord, tooLong, noSuchRecord, indexConditions, chainConditions}
 use Rattle.records.specs.Conditions.{recordsConditions}
 use Rattle.records.specs.Call.{IsRecordsComparison, refused, compared}
@@ -106,6 +106,21 @@ module _ (whose : RefusedSide) (s : List ℤ) (start : ℤ) where
           (λ full. no-long (At k, (refl, (full, other))))
           (λ none. no-bad (At k, (refl, (other, none-bad (records s) z none other))))
           (walk-stops s start))
+
+  -- with an index other than zero it gets 11 after 256 corners, and 12 after fewer
+  module _ (other : z ≢ pos 0) where
+    pub walk-long : k ≡ most
+        → FirstFault (indexConditions whose s start) (record { number = 11; side = whose; place = At k })
+    walk-long full = inl (At k, (refl, (full, other)), refl)
+
+    pub walk-bad : k ≢ most
+        → FirstFault (indexConditions whose s start) (record { number = 12; side = whose; place = At k })
+    walk-bad fewer =
+        let none = ⊎-elim (λ full. absurd (fewer full)) (λ none. none) (walk-stops s start) in
+        inr (
+          λ (p, (at, (full, _))). fewer full,
+          inl (At k, (refl, (other, none-bad (records s) z none other)), refl),
+        )
 
   none-chain : NoneApplies (chainConditions whose s start)
       ↔ (Ends s start × AcceptedAs (orientationOf (corners (chainList s start))) (chainList s start))
@@ -226,46 +241,62 @@ module _ (s : List ℤ) (a b : ℤ) where
         let none = none-chain (Of A) s a .1 (ends, rw (accepted-orientation o (chainList s a) ok) ok) in
         both-faults (inr (none, fault))
 
+-- ---- what a chain gets, by what is read of it
+module _ (whose : RefusedSide) (s : List ℤ) (start : ℤ) where
+  -- a refusal of an index, with the number of the corners that are read as its place
+  read-fault : (number : ℕ) (cs : List Corner) {z : ℤ} → walk s start ≡ record { corners = cs; index = z }
+      → FirstFault (indexConditions whose s start)
+      (record { number = number; side = whose; place = At (length (walk s start .corners)) })
+      → FirstFault (chainConditions whose s start) (record { number = number; side = whose; place = At (length cs) })
+  read-fault number cs is fault = subst
+      (λ (i : ℕ). FirstFault (chainConditions whose s start) (record { number = number; side = whose; place = At i }))
+      (ap (λ (w : Walk). length (w .corners)) is) (index-fault whose s start fault)
+
+  module _ (cs : List Corner) (z : ℤ) (reads : Reads (records s) start cs z) (other : z ≢ pos 0) where
+    -- 256 indexes, one after the other, name records, and the next is not zero: that gets 11
+    pub long-fault : length cs ≡ most
+        → FirstFault (chainConditions whose s start) (record { number = 11; side = whose; place = At (length cs) })
+    unfolding walkFrom
+    long-fault long =
+        let is : walk s start ≡ record { corners = cs; index = z } = walkFrom-unique (records s) most start cs z
+        (record { reads = reads; at-most = omega arith; stops = inl long }) in
+        read-fault 11 cs is (walk-long whose s start (rw is other) (rw is long))
+
+    -- fewer, and the next is not zero and names none: that gets 12
+    pub bad-fault : length cs < most → ¬ Names (records s) z
+        → FirstFault (chainConditions whose s start) (record { number = 12; side = whose; place = At (length cs) })
+    unfolding walkFrom
+    bad-fault fewer none =
+        let is : walk s start ≡ record { corners = cs; index = z } = walkFrom-unique (records s) most start cs z
+        (record { reads = reads; at-most = omega arith; stops = inr none }) in
+        read-fault 12 cs is (walk-bad whose s start (rw is other) (rw is (λ full. omega arith)))
+
 -- ---- chains of more than 256 records
--- 256 indexes, one after the other, name records, and the next is not zero
 abbrev pub LongChain : List ℤ → ℤ → Type 0
 LongChain s start = (cs : List Corner) × (z : ℤ) × Reads (records s) start cs z × (length cs ≡ most) × (z ≢ pos 0)
-
--- such a chain gets 11, with place 256
-pub long-fault : (whose : RefusedSide) (s : List ℤ) (start : ℤ) → LongChain s start
-    → FirstFault (chainConditions whose s start) (record { number = 11; side = whose; place = At most })
-long-fault whose s start (cs, z, reads, long, other) =
-    let is : walk s start ≡ record { corners = cs; index = z } = walkFrom-unique (records s) most start cs z
-    (record { reads = reads; at-most = omega arith; stops = inl long }) in
-    rw (is, long) (inl (At most, (refl, (refl, other)), refl))
 
 -- a chain that comes to a cycle is such: z is met, and met again after at least one corner more
 pub cycle-long : (s : List ℤ) (start z : ℤ) (cs : List Corner) (d : Corner) (ds : List Corner)
     → Reads (records s) start cs z → Reads (records s) z (d ∷ ds) z → LongChain s start
 cycle-long s start z cs d ds along round = cycle-reads (records s) z d ds round most start cs along
 
--- fewer records are read, and the next index is not zero and names none: that gets 12, with their number as its place
-pub bad-fault : (whose : RefusedSide) (s : List ℤ) (start : ℤ) (cs : List Corner) (z : ℤ) → Reads (records s) start cs z
-    → length cs < most → z ≢ pos 0 → ¬ Names (records s) z
-    → FirstFault (chainConditions whose s start) (record { number = 12; side = whose; place = At (length cs) })
-bad-fault whose s start cs z reads fewer other none =
-    let is : walk s start ≡ record { corners = cs; index = z } = walkFrom-unique (records s) most start cs z
-    (record { reads = reads; at-most = omega arith; stops = inr none }) in
-    rw is (inr (
-      λ (p, (at, (full, _))). omega arith,
-      inl (At (length cs), (refl, (other, none-bad (records s) z none other)), refl),
-    ))
+-- its place is 256
+long-at-most : (whose : RefusedSide) (s : List ℤ) (start : ℤ) → LongChain s start
+    → FirstFault (chainConditions whose s start) (record { number = 11; side = whose; place = At most })
+long-at-most whose s start (cs, z, reads, long, other) = subst
+    (λ (i : ℕ). FirstFault (chainConditions whose s start) (record { number = 11; side = whose; place = At i }))
+    long (long-fault whose s start cs z reads other long)
 
 -- so the call refuses a long one: of A, and of B where A's outline is accepted
 module _ (s : List ℤ) (a b : ℤ) (allowance : ℕ) (whole : length s % 3 ≡ 0) where
   pub long-a : LongChain s a
       → recordsComparison s a b allowance ≡ Refused (record { number = 11; side = Of A; place = At most })
-  long-a long = records-refuses s a b allowance _ .1 (fault-a s a b whole (long-fault (Of A) s a long))
+  long-a long = records-refuses s a b allowance _ .1 (fault-a s a b whole (long-at-most (Of A) s a long))
 
   pub long-b : (o : Orientation) → Ends s a → AcceptedAs o (chainList s a) → LongChain s b
       → recordsComparison s a b allowance ≡ Refused (record { number = 11; side = Of B; place = At most })
   long-b o ends ok long =
-      records-refuses s a b allowance _ .1 (fault-b s a b whole o ends ok (long-fault (Of B) s b long))
+      records-refuses s a b allowance _ .1 (fault-b s a b whole o ends ok (long-at-most (Of B) s b long))
 
 -- ---- a start of zero gets 2
 pub zero-fault : (whose : RefusedSide) (s : List ℤ)

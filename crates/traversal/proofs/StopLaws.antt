@@ -4,8 +4,8 @@
 --     stop-long       with another, after 256 corners, it gets 11
 --     stop-none       and after fewer 12
 use Prim.Native.Nat.{_*_, _≤_}
-use mathlib.Core.Path.{_≡_, refl}
-use mathlib.Core.Logic.{_≢_, inl, inr, ⊎-elim}
+use mathlib.Core.Path.{_≡_}
+use mathlib.Core.Logic.{_≢_}
 use mathlib.Core.List.{List}
 use native.Mathlib.Omega.{arith}
 use lib.IntN.{ℤ, pos}
@@ -14,10 +14,11 @@ use Rattle.outline.specs.declared.Place.the-variants.{At}
 use Rattle.outline.specs.declared.RefusedSide.{RefusedSide}
 use Rattle.outline.specs.Corners.{most}
 use Rattle.outline.specs.Refusal.{FirstFault}
-use Rattle.records.specs.Chain.{records, walk, chainList}
+use Rattle.records.specs.Chain.{walk, chainList}
 use Rattle.records.specs.Conditions.{indexConditions}
 use Rattle.records.specs.code.Reading.{EndsIn}
-use Rattle.records.proofs.ChainLaws.{none-bad, walk-most, walk-stops}
+use Rattle.records.proofs.ChainLaws.{walk-most}
+use Rattle.records.proofs.CallLaws.{walk-long, walk-bad}
 use Rattle.traversal.specs.declared.Stop.{Stop}
 use Rattle.traversal.specs.Stop.{stopOf}
 
@@ -36,14 +37,8 @@ module _ (s : List ℤ) (start : ℤ) {stop : Stop} (is : stop ≡ stopOf (walk 
   module _ (whose : RefusedSide) (other : stop .index ≢ pos 0) where
     pub stop-long : stop .count ≡ most
         → FirstFault (indexConditions whose s start) (record { number = 11; side = whose; place = At (stop .count) })
-    stop-long full = rw is (inl (At _, (refl, (rw is at full, rw is at other)), refl))
+    stop-long full = rw is (walk-long whose s start (rw is at other) (rw is at full))
 
     pub stop-none : stop .count ≢ most
         → FirstFault (indexConditions whose s start) (record { number = 12; side = whose; place = At (stop .count) })
-    stop-none fewer =
-        let not-full = rw is at fewer in let index = rw is at other in
-        let none = ⊎-elim (λ full. absurd (not-full full)) (λ none. none) (walk-stops s start) in
-        rw is (inr (
-          λ (p, (at, (full, _))). not-full full,
-          inl (At _, (refl, (index, none-bad (records s) _ none index)), refl),
-        ))
+    stop-none fewer = rw is (walk-bad whose s start (rw is at other) (rw is at fewer))

@@ -39,10 +39,7 @@ slice-reshare-prefix-check-either c =
     omega (arith, ended .at-most, read .before .before .before .pre .0, read .read-chain .kept .1 .1 .1 .0)
 
 slice-aggregate-check-either : tie.Need-slice-aggregate-check-either
-slice-aggregate-check-either c =
-    let known = c .before .before .before .before .before .before .before .before in let read = known .before .before .before in
-    let ended = rw (known .n .given .1) at (chain-a read) in
-    rw length-take (omega (arith, ended .at-most, read .before .before .before .pre .0, read .read-chain .kept .1 .1 .1 .0))
+slice-aggregate-check-either c = rw length-take (omega (arith, slice-reshare-prefix-check-either (c .before)))
 
 returns-3 : tie.Need-returns-3
 returns-3 c =
