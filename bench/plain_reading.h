@@ -70,13 +70,17 @@ static Refusal check_edges(const Corner *c, size_t n) {
     return (Refusal){0};
 }
 
-static Refusal check_corners(const int32_t *s, size_t length) {
-    const Corner *c = (const Corner *)s;
-    size_t n = length / 2;
-    if (!all_in_range(s, length)) return check_range(c, n);
+/* 5 and 6, of corners in range. */
+static Refusal check_shape(const Corner *c, size_t n) {
     if (is_convex(c, n)) return (Refusal){0};
     Refusal repeated = check_repeated(c, n);
     return repeated.number ? repeated : check_edges(c, n);
+}
+
+static Refusal check_corners(const int32_t *s, size_t length) {
+    const Corner *c = (const Corner *)s;
+    size_t n = length / 2;
+    return all_in_range(s, length) ? check_shape(c, n) : check_range(c, n);
 }
 
 static Refusal check_list(const int32_t *s, size_t length) {

@@ -8,6 +8,7 @@
 
 static const int32_t SQUARE[] = {0, 0, 4, 0, 4, 4, 0, 4};
 static const int32_t TRIANGLE[] = {0, 0, 4, 0, 0, 4};
+static const int32_t HALVED[] = {0, 0, 4, 4, 0, 4};
 static const int32_t CLOCKWISE[] = {0, 0, 0, 4, 4, 0};
 static const int32_t MOVED[] = {10, 0, 14, 0, 14, 4, 10, 4};
 static const int32_t STAR[] = {0, 3, -2, -3, 3, 1, -3, 1, 2, -3};
@@ -133,18 +134,30 @@ static void nearest_point(int32_t x, int32_t y, const int32_t *outline, size_t l
     printf("\n");
 }
 
-/* `room` is the length of the list to write, at most that of the square. */
-static void remove_corner(const int32_t *outline, size_t length, size_t corner, size_t room) {
-    int32_t out[COUNT(SQUARE)];
-    struct ravinebowl_status status = ravinebowl_remove_corner(outline, length, corner, out, room);
+/* A word and the numbers of an edited outline, or the refusal. */
+static void print_outline(struct ravinebowl_status status, const char *word, const int32_t *out, size_t length) {
     if (status.code != RAVINEBOWL_ANSWERED) {
         print_refusal(status);
         return;
     }
-    printf("remains");
-    for (size_t i = 0; i < room; i++)
+    printf("%s", word);
+    for (size_t i = 0; i < length; i++)
         printf(" %" PRId32, out[i]);
     printf("\n");
+}
+
+/* `room` is the length of the list to write, at most that of the square. */
+static void remove_corner(const int32_t *outline, size_t length, size_t corner, size_t room) {
+    int32_t out[COUNT(SQUARE)];
+    struct ravinebowl_status status = ravinebowl_remove_corner(outline, length, corner, out, room);
+    print_outline(status, "remains", out, room);
+}
+
+/* `room` as above. */
+static void insert_corner(const int32_t *outline, size_t length, size_t place, int32_t x, int32_t y, size_t room) {
+    int32_t out[COUNT(SQUARE)];
+    struct ravinebowl_status status = ravinebowl_insert_corner(outline, length, place, x, y, out, room);
+    print_outline(status, "results", out, room);
 }
 
 /* A result list with one place too few: the call writes nothing. */
@@ -187,6 +200,14 @@ int main(void) {
     remove_corner(SQUARE, COUNT(SQUARE), 4, COUNT(SQUARE) - 2);
     remove_corner(SQUARE, COUNT(SQUARE), 1, COUNT(SQUARE));
     remove_corner(CLOCKWISE, COUNT(CLOCKWISE), 1, COUNT(CLOCKWISE) - 2);
+    insert_corner(HALVED, COUNT(HALVED), 1, 4, 0, COUNT(HALVED) + 2);
+    insert_corner(TRIANGLE, COUNT(TRIANGLE), 3, -1, 2, COUNT(TRIANGLE) + 2);
+    insert_corner(TRIANGLE, COUNT(TRIANGLE), 4, 4, 4, COUNT(TRIANGLE) + 2);
+    insert_corner(TRIANGLE, COUNT(TRIANGLE), 2, 16001, 4, COUNT(TRIANGLE) + 2);
+    insert_corner(TRIANGLE, COUNT(TRIANGLE), 2, 4, 4, COUNT(TRIANGLE));
+    insert_corner(TRIANGLE, COUNT(TRIANGLE), 0, 0, 4, COUNT(TRIANGLE) + 2);
+    insert_corner(TRIANGLE, COUNT(TRIANGLE), 3, 1, 1, COUNT(TRIANGLE) + 2);
+    insert_corner(CLOCKWISE, COUNT(CLOCKWISE), 1, -1, 2, COUNT(CLOCKWISE) + 2);
     wrong_result_length();
     return 0;
 }

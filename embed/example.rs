@@ -7,6 +7,7 @@ use ravinebowl::{
 
 const SQUARE: [i32; 8] = [0, 0, 4, 0, 4, 4, 0, 4];
 const TRIANGLE: [i32; 6] = [0, 0, 4, 0, 0, 4];
+const HALVED: [i32; 6] = [0, 0, 4, 4, 0, 4];
 const CLOCKWISE: [i32; 6] = [0, 0, 0, 4, 4, 0];
 const MOVED: [i32; 8] = [10, 0, 14, 0, 14, 4, 10, 4];
 const STAR: [i32; 10] = [0, 3, -2, -3, 3, 1, -3, 1, 2, -3];
@@ -110,15 +111,27 @@ fn nearest_point(x: i32, y: i32, outline: &[i32]) {
     }
 }
 
-/// `out` is the list to write.
-fn remove_corner(outline: &[i32], corner: usize, out: &mut [i32]) {
-    match ravinebowl::remove_corner(outline, corner, out) {
+/// A word and the numbers of an edited outline, or the refusal.
+fn print_outline(edited: Result<(), Refusal>, word: &str, out: &[i32]) {
+    match edited {
         Err(refusal) => println!("{refusal}"),
         Ok(()) => {
             let numbers: String = out.iter().map(|number| format!(" {number}")).collect();
-            println!("remains{numbers}");
+            println!("{word}{numbers}");
         }
     }
+}
+
+/// `out` is the list to write.
+fn remove_corner(outline: &[i32], corner: usize, out: &mut [i32]) {
+    let removed = ravinebowl::remove_corner(outline, corner, out);
+    print_outline(removed, "remains", out);
+}
+
+/// `out` is the list to write.
+fn insert_corner(outline: &[i32], place: usize, x: i32, y: i32, out: &mut [i32]) {
+    let inserted = ravinebowl::insert_corner(outline, place, x, y, out);
+    print_outline(inserted, "results", out);
 }
 
 /// A result list with one place too few: the call writes nothing. Only a call over slices can be handed one.
@@ -161,5 +174,13 @@ fn main() {
     remove_corner(&SQUARE, 4, &mut [0; SQUARE.len() - 2]);
     remove_corner(&SQUARE, 1, &mut [0; SQUARE.len()]);
     remove_corner(&CLOCKWISE, 1, &mut [0; CLOCKWISE.len() - 2]);
+    insert_corner(&HALVED, 1, 4, 0, &mut [0; HALVED.len() + 2]);
+    insert_corner(&TRIANGLE, 3, -1, 2, &mut [0; TRIANGLE.len() + 2]);
+    insert_corner(&TRIANGLE, 4, 4, 4, &mut [0; TRIANGLE.len() + 2]);
+    insert_corner(&TRIANGLE, 2, 16001, 4, &mut [0; TRIANGLE.len() + 2]);
+    insert_corner(&TRIANGLE, 2, 4, 4, &mut [0; TRIANGLE.len()]);
+    insert_corner(&TRIANGLE, 0, 0, 4, &mut [0; TRIANGLE.len() + 2]);
+    insert_corner(&TRIANGLE, 3, 1, 1, &mut [0; TRIANGLE.len() + 2]);
+    insert_corner(&CLOCKWISE, 1, -1, 2, &mut [0; CLOCKWISE.len() + 2]);
     wrong_result_length();
 }

@@ -1,5 +1,5 @@
-/* Ravinebowl: the Hausdorff distance and the mismatch sum of two convex outlines, the nearest point of an outline, and removing a corner, in
- * exact whole numbers. The functions are those of crates/ravinebowl, which `rt staticlib ravinebowl` builds as
+/* Ravinebowl: the Hausdorff distance and the mismatch sum of two convex outlines, the nearest point of an outline, and removing and inserting
+ * a corner, in exact whole numbers. The functions are those of crates/ravinebowl, which `rt staticlib ravinebowl` builds as
  * target/staticlib/libravinebowl.a.
  *
  * Units. Coordinates and the clearance are in whole millimetres; a gap, which is a squared distance, is in square millimetres, and a
@@ -18,9 +18,10 @@
  * records from a start index on are the corners of an outline: corner 0 is the record at the start, corner 1 the next of the chain, and so
  * on. What is said here of the list of an outline goes for these corners in their order. Chains may share records or be the same.
  *
- * Orientation. Comparing, the mismatch sum and the nearest point take outlines of either orientation, removing a corner takes
+ * Orientation. Comparing, the mismatch sum and the nearest point take outlines of either orientation, removing and inserting a corner take
  * counterclockwise ones alone. Every number of a corner or an edge, in a result and in the place of a refusal, is its number in the list as
- * given, or along the chain, never a record's index: edge i joins corner i to the following one, whichever way round the list goes.
+ * given, or along the chain, never a record's index: edge i joins corner i to the following one, whichever way round the list goes. Only 5
+ * and 6 of the result of inserting a corner have their places in that result.
  *
  * What a caller must see to. A pointer must be aligned, and good for as many numbers as the count says; a list that is empty may have any
  * pointer. A list that is written (`result`, `out`) must not overlap another list of the same call. Lists that are only read may overlap or
@@ -58,15 +59,15 @@ enum ravinebowl_code {
     RAVINEBOWL_ANSWERED = 0,             /* the call answered; a comparison that is spent is an answer too */
     RAVINEBOWL_ODD_LENGTH = 1,           /* the list has an odd length */
     RAVINEBOWL_TOO_FEW_CORNERS = 2,      /* fewer than 3 corners; in removing a corner also: just 3 */
-    RAVINEBOWL_TOO_MANY_CORNERS = 3,     /* more than 256 corners */
+    RAVINEBOWL_TOO_MANY_CORNERS = 3,     /* more than 256 corners; in inserting a corner also: 256 already */
     RAVINEBOWL_OUT_OF_RANGE = 4,         /* a corner has a coordinate out of range; place: the lowest such corner */
     RAVINEBOWL_REPEATED = 5,             /* a corner equals the one after it; after the last comes corner 0; place: the lowest such corner */
-    RAVINEBOWL_NOT_LEFT = 6,             /* removing a corner: the list is not counterclockwise; the other calls: it fits neither
-                                          * orientation; place, of all calls: the lowest edge that some corner, other than its ends, is
-                                          * not strictly left of, and the lowest such corner */
+    RAVINEBOWL_NOT_LEFT = 6,             /* removing and inserting a corner: the list, or the result of inserting, is not
+                                          * counterclockwise; the other calls: it fits neither orientation; place, of all calls: the lowest
+                                          * edge that some corner, other than its ends, is not strictly left of, and the lowest such corner */
     RAVINEBOWL_POINT_OUT_OF_RANGE = 7,   /* the point is out of range */
-    RAVINEBOWL_NO_SUCH_CORNER = 8,       /* no corner has that number */
-    RAVINEBOWL_WRONG_LENGTH = 9,         /* the list to write is not exactly as long as what remains */
+    RAVINEBOWL_NO_SUCH_CORNER = 8,       /* no corner has that number; in inserting: the place is past the number of corners */
+    RAVINEBOWL_WRONG_LENGTH = 9,         /* the list to write is not exactly as long as what remains, or as the result of inserting */
     RAVINEBOWL_PARTIAL_RECORD = 10,      /* the length of the store is not a multiple of 3; always of side A */
     RAVINEBOWL_CHAIN_TOO_LONG = 11,      /* 256 corners of a chain are read and the next index is not 0; place: 256, the corners read */
     RAVINEBOWL_NO_SUCH_RECORD = 12,      /* an index of a chain, its start too, is negative, or neither 0 nor below the number of records;
@@ -192,6 +193,15 @@ struct ravinebowl_status ravinebowl_nearest_point(int32_t x, int32_t y, const in
  * outline_length - 2. What it writes is an accepted outline, counterclockwise too. Order: 1 to 6, then 8, then 2, then 9. */
 struct ravinebowl_status ravinebowl_remove_corner(const int32_t *outline, size_t outline_length, size_t corner, int32_t *out,
                                                   size_t out_length);
+
+/* Inserts the point (x, y) as corner `place` of a counterclockwise outline and writes the corners of the result to `out`, in their order;
+ * `out_length` must be outline_length + 2. `place` is from 0 to the number of corners: the point comes before what was corner `place`, or
+ * after the last corner, and the corners after it get numbers one higher. What it writes is an accepted outline, counterclockwise too. It
+ * undoes removing the corner `place`, whose x and y the caller has kept, and removing undoes it. Order: 1 to 6 for the outline, then 8, then
+ * 7, then 3, then 9, and last 5 and 6 for the result, with places in the result. The status does not tell whether 5 or 6 is of the outline
+ * or of the result: it is of the result exactly if the outline is accepted, so that ravinebowl_remove_corner gives neither for it. */
+struct ravinebowl_status ravinebowl_insert_corner(const int32_t *outline, size_t outline_length, size_t place, int32_t x, int32_t y,
+                                                  int32_t *out, size_t out_length);
 
 #ifdef __cplusplus
 }

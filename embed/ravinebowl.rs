@@ -1,7 +1,8 @@
 //! Ravinebowl from Rust: a safe wrapper of the C functions, which ravinebowl.h describes. No function panics, whatever it is handed.
-//! Comparing, the mismatch sum and the nearest point take outlines of either orientation, removing a corner takes counterclockwise ones
-//! alone. The numbers of corners and edges are those of the list as given: edge i joins corner i to the following one, whichever way round
-//! the list goes. Comparing takes outlines from chains of linked records too, whose corners are numbered along the chain.
+//! Comparing, the mismatch sum and the nearest point take outlines of either orientation, removing and inserting a corner counterclockwise
+//! ones alone. The numbers of corners and edges are those of the list as given: edge i joins corner i to the following one, whichever way
+//! round the list goes; only 5 and 6 of the result of inserting a corner have their places in that result. Comparing takes outlines from
+//! chains of linked records too, whose corners are numbered along the chain.
 
 use std::fmt;
 
@@ -59,6 +60,15 @@ extern "C" {
         outline: *const i32,
         outline_length: usize,
         corner: usize,
+        out: *mut i32,
+        out_length: usize,
+    ) -> Status;
+    fn ravinebowl_insert_corner(
+        outline: *const i32,
+        outline_length: usize,
+        place: usize,
+        x: i32,
+        y: i32,
         out: *mut i32,
         out_length: usize,
     ) -> Status;
@@ -163,8 +173,8 @@ pub enum Place {
     EdgeAndCorner(usize, usize),
 }
 
-/// Why a call refused: the numbers are in ravinebowl.h. There is a side where there are two outlines. 6 is, in removing a corner,
-/// for a list that is not counterclockwise; in the other calls for one that fits neither orientation.
+/// Why a call refused: the numbers are in ravinebowl.h. There is a side where there are two outlines. 6 is, in removing and inserting
+/// a corner, for a list that is not counterclockwise; in the other calls for one that fits neither orientation.
 #[derive(Clone, Copy, Debug, PartialEq, Eq)]
 pub struct Refusal {
     pub number: u32,
@@ -418,6 +428,32 @@ pub fn remove_corner(outline: &[i32], corner: usize, out: &mut [i32]) -> Result<
             outline.as_ptr(),
             outline.len(),
             corner,
+            out.as_mut_ptr(),
+            out.len(),
+        )
+    };
+    status.answered()
+}
+
+/// Inserts the point (x, y) as corner `place` of a counterclockwise outline and writes the corners of the result to `out`, which must be
+/// exactly as long as that; a refusal leaves it as it was. `place` is from 0 to the number of corners: the point comes before what was
+/// corner `place`, or after the last corner. Refusals 5 and 6 of the result have places in the result; they are of the result exactly if
+/// the outline is accepted.
+pub fn insert_corner(
+    outline: &[i32],
+    place: usize,
+    x: i32,
+    y: i32,
+    out: &mut [i32],
+) -> Result<(), Refusal> {
+    // SAFETY: as above.
+    let status = unsafe {
+        ravinebowl_insert_corner(
+            outline.as_ptr(),
+            outline.len(),
+            place,
+            x,
+            y,
             out.as_mut_ptr(),
             out.len(),
         )

@@ -1,4 +1,4 @@
-"""Reading an outline, the nearest point, removing a corner and the mismatch sum, from the requirements alone, and the C
+"""Reading an outline, the nearest point, removing a corner and the mismatch sum, from the requirements alone, and four C
 functions, from the requirements and embed/ravinebowl.h alone.
 
 Written apart from the proved code, for comparison with it. `answers` gives the lines that the program `call_cases`

@@ -1,5 +1,5 @@
-// The C functions over lists, a line each, as `case_lines::status` lays it out.
-use crate::report;
+// The C functions over lists but the one that inserts a corner, a line each, as `case_lines::status` lays it out.
+use case_lines::edits::print_coordinates;
 use case_lines::status;
 use plane::Corner;
 
@@ -12,7 +12,7 @@ pub fn nearest(v: Corner, a: &[i32], result: &mut [i64]) {
 pub fn remove(a: &[i32], corner: usize, out: &mut [i32]) {
     let returned = ravinebowl::ravinebowl_remove_corner(a, corner, out);
     status::print_status(b"c_remove", returned);
-    report::print_coordinates(out);
+    print_coordinates(out);
 }
 
 pub fn compare(a: &[i32], b: &[i32], allowance: u32, result: &mut [i64]) {

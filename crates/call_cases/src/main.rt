@@ -1,8 +1,8 @@
-// `read_outline`, `read_outline_strict`, `nearest_point`, `remove_corner`, `mismatch` and the four C functions over lists on
-// generated cases (`pairs` runs `compare`, and `record_cases` what takes linked records). The input has the number of
-// cases, and for each the length of A's list and its numbers, the length of B's list and its numbers, and nine numbers,
-// which `Given` names. Each call prints one line. `tests/call_cases.py` writes the input and, by another way, what is to be
-// printed.
+// `read_outline`, `read_outline_strict`, `nearest_point`, `remove_corner`, `mismatch` and four C functions over lists on
+// generated cases (`pairs` runs `compare`, `record_cases` what takes linked records, and `insertion_cases` what inserts a
+// corner). The input has the number of cases, and for each the length of A's list and its numbers, the length of B's list
+// and its numbers, and nine numbers, which `Given` names. Each call prints one line. `tests/call_cases.py` writes the input
+// and, by another way, what is to be printed.
 mod c_functions;
 mod rattle_calls;
 mod report;

@@ -7,7 +7,9 @@
 // A refusal stands after the first word, as `refused NUMBER [PLACE..]`, with the side before the number where there are
 // two outlines; in removing the list to write follows it.
 use crate::report;
+use case_lines::edits::print_edit;
 use case_lines::print_natural;
+use case_lines::print_refusal;
 use mismatch::MismatchAnswer;
 use nearest::NearestAnswer;
 use outline::Orientation;
@@ -32,7 +34,7 @@ pub fn read(a: &[i32]) {
             print_orientation(orientation);
             report::print_outline(outline);
         }
-        Verdict::Refused(refusal) => report::print_refusal(refusal),
+        Verdict::Refused(refusal) => print_refusal(refusal),
     }
     print::text(b"\n");
 }
@@ -44,7 +46,7 @@ pub fn read_strict(a: &[i32]) {
     print::text(b"read_strict");
     match verdict {
         Verdict::Taken => report::print_outline(outline),
-        Verdict::Refused(refusal) => report::print_refusal(refusal),
+        Verdict::Refused(refusal) => print_refusal(refusal),
     }
     print::text(b"\n");
 }
@@ -53,25 +55,21 @@ pub fn nearest(v: Corner, a: &[i32]) {
     print::text(b"nearest");
     match calls::nearest_point(v, a) {
         NearestAnswer::Found(found) => report::print_nearest(found),
-        NearestAnswer::Refused(refusal) => report::print_refusal(refusal),
+        NearestAnswer::Refused(refusal) => print_refusal(refusal),
     }
     print::text(b"\n");
 }
 
 pub fn remove(a: &[i32], corner: usize, out: &mut [i32]) {
-    print::text(b"remove");
-    match calls::remove_corner(a, corner, out) {
-        Verdict::Taken => print::text(b" done"),
-        Verdict::Refused(refusal) => report::print_refusal(refusal),
-    }
-    report::print_coordinates(out);
+    let verdict = calls::remove_corner(a, corner, out);
+    print_edit(b"remove", verdict, out);
 }
 
 pub fn mismatch(a: &[i32], b: &[i32]) {
     print::text(b"mismatch");
     match calls::mismatch(a, b) {
         MismatchAnswer::Summed(sum) => print_natural(sum),
-        MismatchAnswer::Refused(refusal) => report::print_refusal(refusal),
+        MismatchAnswer::Refused(refusal) => print_refusal(refusal),
     }
     print::text(b"\n");
 }

@@ -1,11 +1,12 @@
 // The public calls. Each may be handed any list of any numbers: it does its own checking and has no `requires`.
 // What a call promises it says twice: as an equation with a definition that computes, and in the words of the rules of
 // docs/SPECIFICATION.md (`rules`), from which a caller reads off what holds. Each of the two determines the result.
+use editing::insertion;
+use editing::removal;
 use hausdorff::Comparison;
 use hausdorff::PairVerdict;
 use mismatch::MismatchAnswer;
 use nearest::NearestAnswer;
-use nearest::POINT_OUT_OF_RANGE;
 use outline::EitherReading;
 use outline::Place;
 use outline::Reading;
@@ -16,6 +17,7 @@ use outline::Verdict;
 use plane::Corner;
 use projection::answers;
 use reading::checks;
+use reading::checks::POINT_OUT_OF_RANGE;
 use reading::corners;
 use reading::corners::no_numbers;
 use records::ChainsVerdict;
@@ -27,6 +29,8 @@ ghost use Rattle.outline.specs.code.Either.{eitherReading};
 ghost use Rattle.outline.specs.code.Reading.{reading};
 ghost use Rattle.edit.specs.Removal.{IsRemoval};
 ghost use Rattle.edit.specs.code.Removal.{removalVerdict, listAfter};
+ghost use Rattle.edit.specs.Insertion.{IsInsertion};
+ghost use Rattle.edit.specs.code.Insertion.{insertionVerdict, insertionList};
 ghost use Rattle.nearest.specs.Call.{IsNearestAnswer};
 ghost use Rattle.nearest.specs.code.Call.{nearestAnswer};
 ghost use Rattle.hausdorff.specs.code.Call.{checkPair, comparison};
@@ -64,10 +68,26 @@ pub fn remove_corner(s: &[i32], k: usize, out: &mut [i32]) -> Verdict
     ensures list { λ _. ⌜ now (out .exit) ≡ listAfter (now (s .entry)) k (now (out .entry)) ⌝ }
     ensures rules { λ r. ⌜ IsRemoval (now (s .entry)) k (now (out .entry)) r (now (out .exit)) ⌝ }
 {
-    if let Verdict::Refused(refusal) = edit::check_removal(s, k, out.len()) {
+    if let Verdict::Refused(refusal) = removal::check_removal(s, k, out.len()) {
         return Verdict::Refused(refusal);
     }
-    edit::write_without(s, k, out);
+    removal::write_without(s, k, out);
+    Verdict::Taken
+}
+
+// Inserts the point v as corner k into the outline that the counterclockwise list `s` gives: before what was corner k, or
+// after the last if k is the corner count. Writes the corners of the result to `out`, in their order.
+// Refusals, in this order: 1 to 6 for the outline, 8, 7, 3, 9, and 5 and 6 for the result, with places in the result. A
+// refused call leaves `out` as it was.
+pub fn insert_corner(s: &[i32], k: usize, v: Corner, out: &mut [i32]) -> Verdict
+    ensures answer { λ r. ⌜ r ≡ insertionVerdict (now (s .entry)) k v (now (out .entry)) ⌝ }
+    ensures list { λ _. ⌜ now (out .exit) ≡ insertionList (now (s .entry)) k v (now (out .entry)) ⌝ }
+    ensures rules { λ r. ⌜ IsInsertion (now (s .entry)) k v (now (out .entry)) r (now (out .exit)) ⌝ }
+{
+    if let Verdict::Refused(refusal) = insertion::check_insertion(s, k, v, out.len()) {
+        return Verdict::Refused(refusal);
+    }
+    insertion::write_with(s, k, v, out);
     Verdict::Taken
 }
 

@@ -8,13 +8,12 @@ use lib.IntN.{ℤ}
 use lib.ListN.{length, take, drop}
 use Rattle.plane.specs.declared.Corner.{Corner}
 use Rattle.plane.specs.Vector.{coordinates}
-use Rattle.outline.specs.declared.Refusal.{Refusal}
 use Rattle.outline.specs.declared.RefusedSide.the-variants.{NoSide}
 use Rattle.outline.specs.declared.Verdict.{Verdict}
-use Rattle.outline.specs.declared.Verdict.the-variants.{Taken, Refused}
 use Rattle.outline.specs.Conditions.{readingConditions, AcceptedList}
 use Rattle.outline.specs.Corners.{corners}
-use Rattle.outline.specs.Refusal.{Condition, withoutPlace, FirstFault}
+use Rattle.outline.specs.Refusal.{Condition, withoutPlace}
+use Rattle.edit.specs.Edit.{wrongLength, IsEdit}
 
 -- the other corners in their order
 unfoldable pub without : ℕ → List Corner → List Corner
@@ -32,10 +31,6 @@ smallest = 3
 abbrev pub justThree : List Corner → Condition
 justThree cs = record { number = 2; side = NoSide; applies = withoutPlace (length cs ≡ smallest) }
 
--- 9, the list to write is not exactly as long as the numbers of what remains, cs
-abbrev pub wrongLength : List Corner → ℕ → Condition
-wrongLength cs room = record { number = 9; side = NoSide; applies = withoutPlace (room ≢ length (coordinates cs)) }
-
 -- 8, 2 and 9
 abbrev pub ownConditions : List Corner → ℕ → ℕ → List Condition
 ownConditions cs k room = noSuchCorner cs k ∷ justThree cs ∷ wrongLength (without k cs) room ∷ []
@@ -52,11 +47,7 @@ pub record Permitted (s : List ℤ) (k room : ℕ) : Type 0 where
   pub more : length (corners s) ≢ smallest
   pub long : room ≡ length (coordinates (without k (corners s)))
 
--- `result` is what the call gives, and `after` what the list to write holds then, which held `before`
-pub data IsRemoval (s : List ℤ) (k : ℕ) (before : List ℤ) (result : Verdict) (after : List ℤ) : Type 0 where
-  -- the refusal of the first condition that applies, and the list is as it was
-  refused : (r : Refusal) → FirstFault (removalConditions s k (length before)) r
-      → result ≡ Refused r → after ≡ before → IsRemoval s k before result after
-  -- otherwise the list has the other corners in their order, and gives an accepted outline again
-  removed : Permitted s k (length before) → AcceptedList after
-      → result ≡ Taken → after ≡ coordinates (without k (corners s)) → IsRemoval s k before result after
+-- what the call gives, and what the list to write holds then, which held `out`: a refusal, and what it held; or Taken,
+-- and the other corners in their order
+abbrev pub IsRemoval : List ℤ → ℕ → List ℤ → Verdict → List ℤ → Type 0
+IsRemoval s k out = IsEdit (removalConditions s k (length out)) (Permitted s k (length out)) (without k (corners s)) out

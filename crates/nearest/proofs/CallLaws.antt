@@ -32,17 +32,19 @@ use Rattle.outline.specs.declared.Refusal.{Refusal}
 use Rattle.outline.specs.declared.RefusedSide.the-variants.{NoSide}
 use Rattle.outline.specs.declared.Verdict.{Verdict}
 use Rattle.outline.specs.declared.Verdict.the-variants as Verdict
-use Rattle.outline.specs.code.Checks.{refuseIf, first}
-use Rattle.outline.specs.Conditions.{eitherConditions, AcceptedList}
+use Rattle.outline.specs.code.Checks.{first}
+use Rattle.outline.specs.code.Reading.{checkPoint}
+use Rattle.outline.specs.Conditions.{eitherConditions, pointOutOfRange, AcceptedList}
 use Rattle.outline.specs.Corners.{corners}
 use Rattle.outline.specs.Orientation.{asHeld, AcceptedAs}
 use Rattle.outline.specs.code.Either.{orientationOf, heldCorners, eitherChecks, checkEither}
 use Rattle.outline.specs.code.Polygon.{Polygon}
 use Rattle.outline.specs.Refusal.{refusal, FirstFault}
+use Rattle.outline.proofs.Acceptance.{point-decides, point-in-range}
 use Rattle.outline.proofs.EdgeLaws.{accepted-polygon}
 use Rattle.outline.proofs.ChecksLaws.{append-stops, append-goes-on}
 use Rattle.outline.proofs.ConditionLaws.{AllDecide, first-refused, first-taken, decide-append, none-append}
-use Rattle.outline.proofs.ConditionLaws.{NoneApplies, nowhere-plain, test-decides}
+use Rattle.outline.proofs.ConditionLaws.{NoneApplies, nowhere-plain}
 use Rattle.outline.proofs.EitherLaws.{accepted-held, strict-either, accepted-orientation, either-decide, none-either}
 use Rattle.outline.proofs.EitherLaws.{checked-accepted}
 use Rattle.outline.proofs.OrientationLaws.{held-length}
@@ -52,7 +54,7 @@ use Rattle.nearest.specs.declared.NearestPoint.{NearestPoint}
 use Rattle.nearest.specs.Nearest.{Answers}
 use Rattle.nearest.proofs.AnswerLaws.{answers-iff}
 use Rattle.nearest.proofs.GivenLaws.{given-nearest-held, answers-below}
-use Rattle.nearest.specs.Call.{pointOutOfRange, nearestConditions, IsNearestAnswer, refused, found}
+use Rattle.nearest.specs.Call.{nearestConditions, IsNearestAnswer, refused, found}
 use Rattle.nearest.specs.code.Call.{nearestChecks}
 use Rattle.nearest.specs.code.Call.{nearestGiven, checkNearest, answerFor, nearestAnswer}
 use Rattle.nearest.specs.Given.{givenNearest}
@@ -63,15 +65,11 @@ module _ (v : Corner) where
   not-inRange : (not (inRange v) ≡ true) ↔ (¬ InRange v)
   not-inRange = test-not (inRange v) (inRange-true v)
 
-  -- the check of the point
-  abbrev pointCheck : Verdict
-  pointCheck = refuseIf (not (inRange v)) (refusal (pointOutOfRange v) Nowhere)
-
   module _ (s : List ℤ) where
     decide : AllDecide (nearestChecks v s) (nearestConditions v s)
     decide =
-        decide-append (eitherChecks NoSide s) (pointCheck ∷ []) (eitherConditions NoSide s) (pointOutOfRange v ∷ [])
-        (either-decide NoSide s) (test-decides _ NoSide _ not-inRange, tt)
+        decide-append (eitherChecks NoSide s) (checkPoint v ∷ []) (eitherConditions NoSide s) (pointOutOfRange v ∷ [])
+        (either-decide NoSide s) (point-decides v, tt)
 
     pub point-refused : (r : Refusal) → (checkNearest v s ≡ Verdict.Refused r) ↔ FirstFault (nearestConditions v s) r
     unfolding checkNearest
@@ -87,7 +85,7 @@ module _ (v : Corner) where
             → AcceptedAs (orientationOf (corners s)) s × InRange v
         there (none, (not-out, _)) = (
           none-either NoSide s .0 none,
-          test-stable (inRange v) (inRange-true v) (λ out. not-out (Nowhere, (refl, out))),
+          point-in-range v not-out,
         )
 
         back : AcceptedAs (orientationOf (corners s)) s × InRange v
@@ -190,15 +188,15 @@ module _ (v : Corner) where
       pub call-refused : {r : Refusal} → u ≡ Verdict.Refused r → Refused r ≡ nearestAnswer v s
       unfolding checkNearest checkEither
       call-refused {r} not-taken =
-          sym (answer-refused r .1 (append-stops (eitherChecks NoSide s) (pointCheck ∷ []) (sym is-checked ∙ not-taken)))
+          sym (answer-refused r .1 (append-stops (eitherChecks NoSide s) (checkPoint v ∷ []) (sym is-checked ∙ not-taken)))
 
       module _ (taken : u ≡ Verdict.Taken) where
         accepted : AcceptedAs (orientationOf (corners s)) s
         accepted = checked-accepted NoSide s is-checked taken refl
 
-        by-point : checkNearest v s ≡ first (pointCheck ∷ [])
+        by-point : checkNearest v s ≡ first (checkPoint v ∷ [])
         unfolding checkNearest checkEither
-        by-point = append-goes-on (eitherChecks NoSide s) (pointCheck ∷ []) (sym is-checked ∙ taken)
+        by-point = append-goes-on (eitherChecks NoSide s) (checkPoint v ∷ []) (sym is-checked ∙ taken)
 
         pub call-out-of-range : not (inRange v) ≡ true
             → Refused (refusal (pointOutOfRange v) Nowhere) ≡ nearestAnswer v s

@@ -8,19 +8,15 @@ use lib.ListN.{length}
 use Rattle.outline.specs.declared.Orientation.{Orientation}
 use Rattle.outline.specs.declared.Refusal.{Refusal}
 use Rattle.outline.specs.declared.RefusedSide.the-variants.{NoSide}
-use Rattle.outline.specs.Conditions.{eitherConditions}
+use Rattle.outline.specs.Conditions.{eitherConditions, pointOutOfRange}
 use Rattle.outline.specs.Corners.{corners}
 use Rattle.outline.specs.Orientation.{asHeld, AcceptedAs}
-use Rattle.outline.specs.Refusal.{Condition, withoutPlace, FirstFault}
+use Rattle.outline.specs.Refusal.{Condition, FirstFault}
 use Rattle.nearest.specs.declared.NearestPoint.{NearestPoint}
 use Rattle.nearest.specs.declared.NearestAnswer.{NearestAnswer}
 use Rattle.nearest.specs.declared.NearestAnswer.the-variants.{Found, Refused}
 use Rattle.nearest.specs.Given.{givenNearest}
 use Rattle.nearest.specs.Nearest.{Answers}
-
--- 7, the point out of range
-abbrev pub pointOutOfRange : Corner → Condition
-pointOutOfRange v = record { number = 7; side = NoSide; applies = withoutPlace (¬ InRange v) }
 
 -- rule 2.5: 1 to 6 for the outline, then 7
 abbrev pub nearestConditions : Corner → List ℤ → List Condition

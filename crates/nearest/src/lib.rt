@@ -3,9 +3,6 @@ use integers::fraction::Fraction;
 use outline::Refusal;
 use plane::Point;
 
-// The number of the refusal of a point.
-pub const POINT_OUT_OF_RANGE: u32 = 7;
-
 // Rule 3.3, the nearest feature. `Within`: the point is in the piece. `Edge(i)`: strictly between the ends of edge i.
 pub enum Feature {
     Within,

@@ -6,7 +6,12 @@
 --     convex-decides       6 alone
 --     range-taken, convex-taken    the check 4 takes exactly where all corners are in range, and 6 where they are
 --                          strictly convex
---     convex-accepted      where the length is right and the corners are in range and strictly convex, all checks take
+--     not-left-none        6 does not apply exactly where they are
+--     coordinates-accepted    the list of some corners is accepted exactly where they are
+--     point-decides, point-in-range    7: the check decides its condition; a point to which it does not apply is in range
+-- Of 5 and 6 together, of three corners or more:
+--     shape-decide         each check decides its condition
+--     shape-none, shape-taken    neither applies, and both checks take, exactly where the corners are strictly convex
 -- Of 1 to 5, which both readings have:
 --     Sized                a list of even length, with 3 to 256 corners, all in range
 --     common-decide        each check decides its condition, and so does one more
@@ -24,27 +29,31 @@ use lib.ListN.{length}
 use Rattle.integers.proofs.Reflect.{test-not, test-and, test-stable, test-eqb, test-ltb}
 use Rattle.plane.specs.declared.Corner.{Corner}
 use Rattle.plane.specs.Range.{InRange}
+use Rattle.plane.specs.Vector.{coordinates}
 use Rattle.plane.specs.code.Range.{inRange}
 use Rattle.plane.specs.code.Tests.{isLeft}
 use Rattle.plane.proofs.Tests.{inRange-true, same-true, isLeft-true}
 use Rattle.outline.specs.declared.Place.the-variants.{Nowhere}
 use Rattle.outline.specs.declared.Refusal.{Refusal}
 use Rattle.outline.specs.declared.RefusedSide.{RefusedSide}
+use Rattle.outline.specs.declared.RefusedSide.the-variants.{NoSide}
 use Rattle.outline.specs.declared.Verdict.{Verdict}
 use Rattle.outline.specs.declared.Verdict.the-variants.{Taken, Refused}
-use Rattle.outline.specs.Conditions.{NotLeftOf, outOfRange, repeated, notLeft, commonConditions}
+use Rattle.outline.specs.Conditions.{NotLeftOf, outOfRange, repeated, notLeft, pointOutOfRange, commonConditions}
 use Rattle.outline.specs.Conditions.{readingConditions, AcceptedList}
-use Rattle.outline.specs.Convex.{AllInRange, LeftOf, StrictlyConvex}
+use Rattle.outline.specs.Convex.{AllInRange, LeftOf, StrictlyConvex, Accepted}
 use Rattle.outline.specs.Corners.{corners, corner, next, edge, fewest, most}
 use Rattle.outline.specs.code.Reading.{isOutOfRange, isRepeated, isNotLeft}
 use Rattle.outline.specs.code.Checks.{first}
-use Rattle.outline.specs.code.Reading.{checkRange, checkRepeated, checkEdge, checkConvex}
+use Rattle.outline.specs.code.Reading.{checkPoint, checkRange, checkRepeated, checkEdge, checkConvex}
 use Rattle.outline.specs.code.Reading.{lengthChecks, checks, check}
-use Rattle.outline.specs.Refusal.{Condition, FirstFault}
+use Rattle.outline.specs.Refusal.{Condition, Applies, FirstFault}
 use Rattle.outline.proofs.ChecksLaws.{orElse-taken, refuseIf-taken}
+use Rattle.outline.proofs.CornersLaws.{length-coordinates, corners-coordinates}
 use Rattle.outline.proofs.EdgeLaws.{accepted-polygon, polygon-distinct}
 use Rattle.outline.proofs.ConditionLaws.{_and_, Decides, AllDecide, decides-taken, first-refused, first-taken}
-use Rattle.outline.proofs.ConditionLaws.{NoneApplies, nowhere-plain, lowest-none, decide-append, none-append}
+use Rattle.outline.proofs.ConditionLaws.{NoneApplies, nowhere-plain, plain-stable, lowest-none}
+use Rattle.outline.proofs.ConditionLaws.{decide-append, none-append}
 use Rattle.outline.proofs.ConditionLaws.{test-decides, tests-taken, lowest-decides, edges-taken, edges-decide}
 
 -- ---- each check of the corners: its test, by its meaning; that it decides its condition; what it means that it takes
@@ -111,6 +120,40 @@ module _ (cs : List Corner) where
     λ convex e e-below (c, c-below, found).
         found .not-left (convex e c e-below c-below (found .not-start) (found .not-end)),
   )
+
+  pub not-left-none : (whose : RefusedSide) → (¬ Applies (notLeft whose cs)) ↔ StrictlyConvex cs
+  not-left-none whose = (
+    λ none. convex-taken whose .0 (decides-taken (convex-decides whose) .1 none),
+    λ convex. decides-taken (convex-decides whose) .0 (convex-taken whose .1 convex),
+  )
+
+  -- 5 and 6: three or more strictly convex corners have no equal neighbours
+  module _ (whose : RefusedSide) where
+    abbrev shapeChecks : List Verdict
+    shapeChecks = checkRepeated whose cs ∷ checkConvex whose cs ∷ []
+
+    abbrev shapeConditions : List Condition
+    shapeConditions = repeated whose cs ∷ notLeft whose cs ∷ []
+
+    pub shape-decide : AllDecide shapeChecks shapeConditions
+    shape-decide = repeated-decides whose and convex-decides whose and tt
+
+    pub shape-none : fewest ≤ n → NoneApplies shapeConditions ↔ StrictlyConvex cs
+    shape-none enough = (
+      λ (_, (none, _)). not-left-none whose .0 none,
+      λ convex. lowest-none _ repeated-true n .1 (polygon-distinct {cs = cs} (record { at-least = enough; convex = convex }))
+          and not-left-none whose .1 convex and tt,
+    )
+
+    pub shape-taken : fewest ≤ n → (first shapeChecks ≡ Taken) ↔ StrictlyConvex cs
+    shape-taken enough = Iff·trans (first-taken shapeChecks shapeConditions shape-decide) (shape-none enough)
+
+-- ---- 7
+pub point-decides : (v : Corner) → Decides (checkPoint v) (pointOutOfRange v)
+point-decides v = test-decides _ NoSide _ (test-not (inRange v) (inRange-true v))
+
+pub point-in-range : (v : Corner) → ¬ Applies (pointOutOfRange v) → InRange v
+point-in-range v = plain-stable (inRange v) (inRange-true v)
 
 -- ---- 1 to 5
 -- a list of even length, with 3 to 256 corners, all in range
@@ -194,21 +237,22 @@ module _ (whose : RefusedSide) (s : List ℤ) where
   none-accepted = Iff·trans (none-append (commonConditions whose s) (notLeft whose (corners s) ∷ [])) (there, back)
     where
       there : NoneApplies (commonConditions whose s) × NoneApplies (notLeft whose (corners s) ∷ []) → AcceptedList s
-      there (none, (none-not-left, _)) = sized-accepted (common-sized whose s none)
-          (convex-taken (corners s) whose .0 (decides-taken (convex-decides (corners s) whose) .1 none-not-left))
+      there (none, (none-not-left, _)) =
+          sized-accepted (common-sized whose s none) (not-left-none (corners s) whose .0 none-not-left)
 
       back : AcceptedList s → NoneApplies (commonConditions whose s) × NoneApplies (notLeft whose (corners s) ∷ [])
       back (even, ok) = (
         common-none whose s
             (record { even = even; at-least = ok .at-least; at-most = ok .at-most; in-range = ok .in-range })
             (polygon-distinct (accepted-polygon ok)),
-        decides-taken (convex-decides (corners s) whose) .0 (convex-taken (corners s) whose .1 (ok .convex)) and tt,
+        not-left-none (corners s) whose .1 (ok .convex) and tt,
       )
 
   pub accepted : (check whose s ≡ Taken) ↔ AcceptedList s
   accepted = Iff·trans check-taken none-accepted
 
-  -- three or more strictly convex corners have no equal neighbours, so 5 takes too
-  pub convex-accepted : first (lengthChecks whose s) ≡ Taken → AllInRange (corners s) → StrictlyConvex (corners s)
-      → check whose s ≡ Taken
-  convex-accepted lengths all convex = accepted .1 (sized-accepted (lengths-sized whose s lengths all) convex)
+pub coordinates-accepted : (cs : List Corner) → AcceptedList (coordinates cs) ↔ Accepted cs
+coordinates-accepted cs = (
+  λ (_, ok). rw (corners-coordinates cs) at ok,
+  λ ok. (omega (arith, length-coordinates cs), rw (corners-coordinates cs) ok),
+)

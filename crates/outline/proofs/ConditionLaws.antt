@@ -11,7 +11,7 @@
 --     AllApplying, applying-append, fault-applying    what holds of the number of each condition that applies holds of a
 --                                   refusal's
 --     allNumbers, fault-number      a test that each condition's number passes, a refusal's passes
---     nowhere-plain                 a condition without a place that applies nowhere
+--     nowhere-plain, plain-stable   a condition without a place that applies nowhere
 --     lowest-none                   one with a number applies nowhere exactly where no number below n passes its test
 -- A check that decides a condition:
 --     test-decides                  without a place, by a test
@@ -24,7 +24,7 @@ use mathlib.Core.Path.{_≡_, refl, subst}
 use mathlib.Core.Logic.{_↔_, Iff·trans, _⊎_, inl, inr, ⊎-elim, ⊎-map}
 use mathlib.Core.Bool.{Bool, true, _&&_}
 use mathlib.Core.List.{List, [], _∷_, _++_}
-use Rattle.integers.proofs.Reflect.{test-and}
+use Rattle.integers.proofs.Reflect.{test-and, test-stable}
 use Rattle.lists.proofs.FirstLaws.{First}
 use Rattle.outline.specs.declared.Place.{Place}
 use Rattle.outline.specs.declared.Place.the-variants.{Nowhere, At, EdgeAndCorner}
@@ -150,6 +150,10 @@ fault-number test cs r all fault = fault-applying (λ n. test n ≡ true) cs r (
 -- ---- a condition that applies nowhere, by what it says of the place
 pub nowhere-plain : {P : Type 0} → ¬ P → ¬ ((p : Place) × withoutPlace P p)
 nowhere-plain none (p, (here, holds)) = none holds
+
+-- of what a test decides, one that says that it does not hold
+pub plain-stable : {P : Type 0} (b : Bool) → ((b ≡ true) ↔ P) → ¬ ((p : Place) × withoutPlace (¬ P) p) → P
+plain-stable b means none = test-stable b means (λ not. none (Nowhere, (refl, not)))
 
 nowhere-number : {P : ℕ → Type 0} → ((i : ℕ) → ¬ P i) → ¬ ((p : Place) × atNumber P p)
 nowhere-number none (p, (i, here, holds)) = none i holds

@@ -10,7 +10,8 @@
 --     corner-at                      corner i is numbers 2 i and 2 i + 1
 --     length-coordinates, coordinate-x, coordinate-y    the same for corners written as numbers
 --     corners-coordinates            corners written as numbers and read again are the same corners
-use Prim.Native.Nat.{ℕ, zero, suc, _+_, _-_, _*_, _/_, _<_, _≤_}
+--     coordinates-corners            and numbers read as corners and written again the same numbers, if their count is even
+use Prim.Native.Nat.{ℕ, zero, suc, _+_, _-_, _*_, _/_, _%_, _<_, _≤_}
 use mathlib.Core.Path.{_≡_, refl, ap}
 use mathlib.Core.Logic.{_≢_, _⊎_, inl, inr, ⊎-elim}
 use mathlib.Core.Bool.{Bool, true, false}
@@ -104,6 +105,12 @@ pub corners-coordinates : (cs : List Corner) → corners (coordinates cs) ≡ cs
 unfolding corners
 corners-coordinates [] = refl
 corners-coordinates (c ∷ cs) = ap (λ (r : List Corner). c ∷ r) (corners-coordinates cs)
+
+pub coordinates-corners : (s : List ℤ) → length s % 2 ≡ 0 → coordinates (corners s) ≡ s
+unfolding corners
+coordinates-corners [] even = refl
+coordinates-corners (x ∷ []) even = absurd (omega arith)
+coordinates-corners (x ∷ (y ∷ s)) even = ap (λ (r : List ℤ). x ∷ y ∷ r) (coordinates-corners s (omega arith))
 
 pub coordinate-x : (cs : List Corner) (i : ℕ) → getD (coordinates cs) (2 * i) (pos 0) ≡ corner cs i .x
 coordinate-x [] i = refl

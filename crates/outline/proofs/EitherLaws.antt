@@ -52,7 +52,7 @@ use Rattle.outline.specs.code.Held.{IsOutline, cornersOf}
 use Rattle.outline.specs.code.Reading.{lengthChecks, checkConvex}
 use Rattle.outline.specs.code.Turns.{isConvex}
 use Rattle.outline.proofs.Acceptance.{convex-decides, convex-taken, Sized, common-decide, common-none}
-use Rattle.outline.proofs.Acceptance.{common-sized, lengths-sized}
+use Rattle.outline.proofs.Acceptance.{not-left-none, common-sized, lengths-sized}
 use Rattle.outline.proofs.ChecksLaws.{taken≢refused}
 use Rattle.outline.proofs.CornersLaws.{next-suc, next-last}
 use Rattle.outline.proofs.ConditionLaws.{_and_, Decides, AllDecide, decides-taken, first-refused, first-taken}
@@ -148,7 +148,7 @@ module _ (whose : RefusedSide) (cs : List Corner) where
   -- where the corners fit an orientation it does not apply
   fits-one : (o : Orientation) → HasOrientation o cs → ¬ Applies (fitsNeither whose cs)
   fits-one Counterclockwise convex (p, (not-right, applies)) =
-      decides-taken (convex-decides cs whose) .0 (convex-taken cs whose .1 convex) (p, applies)
+      not-left-none cs whose .1 convex (p, applies)
   fits-one Clockwise right (p, (not-right, applies)) = not-right right
 
   either-convex-decides : Decides (checkEitherConvex whose cs) (fitsNeither whose cs)

@@ -2,14 +2,18 @@
 --     put-next        corner j of cs, put to its place, makes two numbers more of the corners' numbers
 --     put-after       a corner put after corners that stand at the beginning of a list, however long that is
 --     put-length      the list stays as long as it is
-use Prim.Native.Nat.{ℕ, suc, _+_, _*_, _<_}
+-- For loops that write the corners cs to a list of just their length:
+--     Writing         the invariant: the first i are written, over what the list held
+--     write-start, write-next, write-all    it holds at the start, goes on with a corner, and at the end the list has them all
+--     write-length, write-room    the list stays as long as it is, and has room for the next corner
+use Prim.Native.Nat.{ℕ, suc, _+_, _*_, _<_, _≤_}
 use mathlib.Core.Path.{_≡_, refl, ap, _∙_}
 use mathlib.Core.List.{List, [], _∷_, _++_, append-assoc}
 use native.Mathlib.Omega.{arith}
 use lib.IntN.{ℤ, pos}
 use lib.ListN.{length, take, set, length-set}
 use lib.Seq.{take-suc-set}
-use Rattle.lists.proofs.CopyLaws.{copied, copied-suc}
+use Rattle.lists.proofs.CopyLaws.{copied, copied-suc, copied-length, copied-all}
 use Rattle.plane.specs.declared.Corner.{Corner}
 use Rattle.plane.specs.Vector.{coordinates}
 use Rattle.outline.specs.Corners.{corner}
@@ -58,3 +62,32 @@ put-after s cs j c room is =
       append-assoc,
       coordinates-append,
     )
+
+pub record Writing (out₀ : List ℤ) (cs : List Corner) (i : ℕ) (out : List ℤ) : Type 0 where
+  pub long : length out₀ ≡ length (coordinates cs)
+  pub turn : i ≤ length cs
+  pub is : out ≡ copied out₀ (coordinates cs) (2 * i)
+
+pub write-start : {out : List ℤ} (cs : List Corner) → length out ≡ length (coordinates cs) → Writing out cs 0 out
+write-start cs long = record { long = long; turn = omega arith; is = refl }
+
+module _ {out₀ : List ℤ} {cs : List Corner} {i : ℕ} {out : List ℤ} (writing : Writing out₀ cs i out) where
+  pub write-length : length out ≡ length out₀
+  write-length =
+      ap length (writing .is)
+      ∙ copied-length out₀ (coordinates cs) (2 * i) (writing .long) (omega (arith, writing .turn, length-coordinates cs))
+
+  pub write-room : i < length cs → 2 * i + 1 < length out
+  write-room below = omega (arith, write-length, writing .long, length-coordinates cs)
+
+  pub write-next : {c : Corner} → i < length cs → c ≡ corner cs i → Writing out₀ cs (i + 1) (putCorner out i c)
+  write-next below next = record {
+    long = writing .long;
+    turn = omega arith;
+    is = rw (writing .is, next) (put-next out₀ cs i (writing .long) below);
+  }
+
+  pub write-all : length cs ≤ i → out ≡ coordinates cs
+  write-all past =
+      writing .is
+      ∙ copied-all out₀ (coordinates cs) (2 * i) (writing .long) (omega (arith, writing .turn, length-coordinates cs))

@@ -1,4 +1,4 @@
--- Rule 2.4: what is refused in reading. `whose` is the side that a refusal names.
+-- Rule 2.4: what is refused in reading, and 7, of a point. `whose` is the side that a refusal names.
 use Prim.Native.Nat.{ℕ, _<_, _%_}
 use mathlib.Core.Path.{_≡_}
 use mathlib.Core.Logic.{_≢_}
@@ -8,6 +8,7 @@ use lib.ListN.{length}
 use Rattle.plane.specs.declared.Corner.{Corner}
 use Rattle.plane.specs.Range.{InRange}
 use Rattle.outline.specs.declared.RefusedSide.{RefusedSide}
+use Rattle.outline.specs.declared.RefusedSide.the-variants.{NoSide}
 use Rattle.outline.specs.Convex.{LeftOf, Accepted}
 use Rattle.outline.specs.Orientation.{StrictlyClockwise}
 use Rattle.outline.specs.Corners.{corners, corner, next, fewest, most}
@@ -72,6 +73,10 @@ fitsNeither whose cs = record {
   side = whose;
   applies = λ p. (¬ StrictlyClockwise cs) × notLeft whose cs .applies p;
 }
+
+-- 7, the point out of range, in a call that takes a point
+abbrev pub pointOutOfRange : Corner → Condition
+pointOutOfRange v = record { number = 7; side = NoSide; applies = withoutPlace (¬ InRange v) }
 
 -- 1 to 5, in their order, which both readings have
 abbrev pub commonConditions : RefusedSide → List ℤ → List Condition

@@ -2,14 +2,17 @@
 --     length-wrong, length-right    the result list has the wrong length, or the right one
 --     answered-alike                comparing chains is answered as comparing the lists of their corners
 -- Where the code is not that of an answer, no list was written:
---     NotAnswered, compare-kept, records-kept, nearest-kept, mismatch-kept, removal-kept
+--     NotAnswered, compare-kept, records-kept, nearest-kept, mismatch-kept, removal-kept, insertion-kept
 -- The code of a refusal is neither that of an answer nor that of a wrong length:
---     CodeApart, compare-code, records-code, nearest-code, removal-code, mismatch-code
+--     CodeApart, compare-code, records-code, nearest-code, removal-code, insertion-code, mismatch-code
+-- So the functions that edit answer exactly where the calls take, and undo each other:
+--     removal-answered, insertion-answered, answered-insert, answered-remove
 use Prim.Native.Nat.{ℕ, _<_}
-use mathlib.Core.Path.{_≡_, refl}
+use mathlib.Core.Path.{_≡_, refl, ap}
 use mathlib.Core.Bool.{Bool, true, false, cond}
-use mathlib.Core.Logic.{_≢_}
+use mathlib.Core.Logic.{_≢_, _↔_}
 use mathlib.Core.List.{List}
+use native.Mathlib.Omega.{arith}
 use borrow.Author.Tests.{eq-eqb, ne-eqb}
 use lib.Dec.{eqb}
 use lib.IntN.{ℤ}
@@ -19,9 +22,15 @@ use Rattle.outline.specs.declared.Refusal.{Refusal}
 use Rattle.outline.specs.declared.Verdict.{Verdict}
 use Rattle.outline.specs.declared.Verdict.the-variants as Verdict
 use Rattle.outline.specs.code.Checks.{ifTaken}
+use Rattle.outline.specs.Corners.{corners, corner}
+use Rattle.outline.proofs.ChecksLaws.{taken≢refused}
 use Rattle.edit.specs.Removal.{removalConditions}
 use Rattle.edit.specs.code.Removal.{removalVerdict, listAfter}
 use Rattle.edit.proofs.Removal.{removal-refused}
+use Rattle.edit.specs.Insertion.{insertionConditions}
+use Rattle.edit.specs.code.Insertion.{insertionVerdict, insertionList}
+use Rattle.edit.proofs.Insertion.{insertion-refused}
+use Rattle.edit.proofs.RoundTrip.{remove-insert, insert-remove}
 use Rattle.nearest.specs.declared.NearestAnswer.{NearestAnswer}
 use Rattle.nearest.specs.declared.NearestAnswer.the-variants as NearestAnswer
 use Rattle.nearest.specs.Call.{nearestConditions}
@@ -47,7 +56,7 @@ use Rattle.ravinebowl.specs.Calls.{compareLength, statusOfComparison, li
 use Rattle.ravinebowl.specs.Calls.{compareRecordsStatus, compareRecordsList}
 use Rattle.ravinebowl.specs.Calls.{nearestLength, statusOfNearest, listOfNearest, nearestStatus, nearestList}
 use Rattle.ravinebowl.specs.Calls.{mismatchLength, statusOfMismatch, listOfMismatch, mismatchStatus, mismatchList}
-use Rattle.ravinebowl.specs.Calls.{statusOfVerdict, removalStatus}
+use Rattle.ravinebowl.specs.Calls.{statusOfVerdict, removalStatus, insertionStatus}
 
 abbrev pub NotAnswered : Status → Type 0
 NotAnswered status = status .code ≢ answered .code
@@ -117,12 +126,17 @@ mismatch-kept s t result =
     by-answer (MismatchAnswer.Refused r) not = refl
     by-answer (MismatchAnswer.Summed m) not = absurd (not refl)
 
+-- a call whose list is written where its verdict is Taken
+verdict-kept : (v : Verdict) (written out : List ℤ) → NotAnswered (statusOfVerdict v) → ifTaken v written out ≡ out
+verdict-kept Verdict.Taken written out not = absurd (not refl)
+verdict-kept (Verdict.Refused r) written out not = refl
+
 pub removal-kept : (s : List ℤ) (k : ℕ) (out : List ℤ) → NotAnswered (removalStatus s k out) → listAfter s k out ≡ out
-removal-kept s k out = by-verdict (removalVerdict s k out) _
-  where
-    by-verdict : (v : Verdict) (remains : List ℤ) → NotAnswered (statusOfVerdict v) → ifTaken v remains out ≡ out
-    by-verdict Verdict.Taken remains not = absurd (not refl)
-    by-verdict (Verdict.Refused r) remains not = refl
+removal-kept s k out = verdict-kept (removalVerdict s k out) _ out
+
+pub insertion-kept : (s : List ℤ) (k : ℕ) (v : Corner) (out : List ℤ) → NotAnswered (insertionStatus s k v out)
+    → insertionList s k v out ≡ out
+insertion-kept s k v out = verdict-kept (insertionVerdict s k v out) _ out
 
 -- a refusal's code is neither that of an answer nor that of a wrong length
 abbrev pub CodeApart : Refusal → Type 0
@@ -144,5 +158,45 @@ pub removal-code : (s : List ℤ) (k : ℕ) (out : List ℤ) (r : Refusal) → r
 removal-code s k out r is =
     refused-code (removalConditions s k (length out)) r refl (removal-refused s k (length out) r .0 is)
 
+pub insertion-code : (s : List ℤ) (k : ℕ) (v : Corner) (out : List ℤ) (r : Refusal)
+    → insertionVerdict s k v out ≡ Verdict.Refused r → CodeApart r
+insertion-code s k v out r is =
+    refused-code (insertionConditions s k v (length out)) r refl (insertion-refused s k v (length out) r .0 is)
+
 pub mismatch-code : (s t : List ℤ) (r : Refusal) → mismatchAnswer s t ≡ MismatchAnswer.Refused r → CodeApart r
 mismatch-code s t r is = refused-code (pairConditions s t) r refl (mismatch-refuses s t r .0 is)
+
+-- a call that edits answers exactly where its verdict is Taken
+verdict-answered : (v : Verdict) → ((r : Refusal) → v ≡ Verdict.Refused r → CodeApart r)
+    → (statusOfVerdict v ≡ answered) ↔ (v ≡ Verdict.Taken)
+verdict-answered Verdict.Taken apart = (λ _. refl, λ _. refl)
+verdict-answered (Verdict.Refused r) apart = (
+  λ is. (let above = apart r refl .0 in absurd (omega (arith, above, ap code is))),
+  λ is. absurd (taken≢refused is refl),
+)
+  where
+    code : Status → ℕ
+    code status = status .code
+
+pub removal-answered : (s : List ℤ) (k : ℕ) (out : List ℤ)
+    → (removalStatus s k out ≡ answered) ↔ (removalVerdict s k out ≡ Verdict.Taken)
+removal-answered s k out = verdict-answered (removalVerdict s k out) (removal-code s k out)
+
+pub insertion-answered : (s : List ℤ) (k : ℕ) (v : Corner) (out : List ℤ)
+    → (insertionStatus s k v out ≡ answered) ↔ (insertionVerdict s k v out ≡ Verdict.Taken)
+insertion-answered s k v out = verdict-answered (insertionVerdict s k v out) (insertion-code s k v out)
+
+-- so the C functions that edit undo each other, as the calls do
+pub answered-insert : (s : List ℤ) (k : ℕ) (out back : List ℤ) → length back ≡ length s → removalStatus s k out ≡ answered
+    → (let v = corner (corners s) k in let rest = listAfter s k out in
+    (insertionStatus rest k v back ≡ answered) × (insertionList rest k v back ≡ s))
+answered-insert s k out back long is =
+    let (takes, old) = remove-insert s k out back long (removal-answered s k out .0 is) in
+    (insertion-answered (listAfter s k out) k (corner (corners s) k) back .1 takes, old)
+
+pub answered-remove : (s : List ℤ) (k : ℕ) (v : Corner) (out back : List ℤ) → length back ≡ length s
+    → insertionStatus s k v out ≡ answered
+    → (let more = insertionList s k v out in (removalStatus more k back ≡ answered) × (listAfter more k back ≡ s))
+answered-remove s k v out back long is =
+    let (takes, old) = insert-remove s k v out back long (insertion-answered s k v out .0 is) in
+    (removal-answered (insertionList s k v out) k back .1 takes, old)

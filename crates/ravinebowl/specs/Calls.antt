@@ -1,13 +1,15 @@
--- Rules 9.1 to 9.8, 9.10 and 9.11: what each call returns, and what it leaves in the list that it may write.
+-- Rules 9.1 to 9.8 and 9.10 to 9.12: what each call returns, and what it leaves in the list that it may write.
 use Prim.Native.Nat.{ℕ}
 use mathlib.Core.Bool.{cond}
 use mathlib.Core.List.{List}
 use lib.Dec.{eqb}
 use lib.IntN.{ℤ}
 use lib.ListN.{length}
+use Rattle.plane.specs.declared.Corner.{Corner}
 use Rattle.outline.specs.declared.Verdict.{Verdict}
 use Rattle.outline.specs.declared.Verdict.the-variants as Verdict
 use Rattle.edit.specs.code.Removal.{removalVerdict}
+use Rattle.edit.specs.code.Insertion.{insertionVerdict}
 use Rattle.nearest.specs.declared.NearestAnswer.{NearestAnswer}
 use Rattle.nearest.specs.declared.NearestAnswer.the-variants as NearestAnswer
 use Rattle.nearest.specs.code.Call.{nearestAnswer}
@@ -106,7 +108,7 @@ mismatchStatus s t result = statusFor mismatchLength statusOfMismatch (mismatchA
 unfoldable pub mismatchList : List ℤ → List ℤ → List ℤ → List ℤ
 mismatchList s t result = listFor mismatchLength listOfMismatch (mismatchAnswer s t) result
 
--- the status, by what removing a corner answers
+-- the status, by what removing or inserting a corner answers
 abbrev pub statusOfVerdict : Verdict → Status
 statusOfVerdict Verdict.Taken = answered
 statusOfVerdict (Verdict.Refused r) = refusedStatus r
@@ -114,3 +116,7 @@ statusOfVerdict (Verdict.Refused r) = refusedStatus r
 -- the status that `ravinebowl_remove_corner` returns; its list is `listAfter` of `edit/specs/code/Removal.antt`
 abbrev pub removalStatus : List ℤ → ℕ → List ℤ → Status
 removalStatus s k out = statusOfVerdict (removalVerdict s k out)
+
+-- the status that `ravinebowl_insert_corner` returns; its list is `insertionList` of `edit/specs/code/Insertion.antt`
+abbrev pub insertionStatus : List ℤ → ℕ → Corner → List ℤ → Status
+insertionStatus s k v out = statusOfVerdict (insertionVerdict s k v out)

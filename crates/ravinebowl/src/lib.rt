@@ -25,8 +25,10 @@ ghost use Rattle.hausdorff.specs.code.Sizes.{ReportFits};
 ghost use Rattle.encoding.specs.Results.{ofReport};
 ghost use Rattle.ravinebowl.specs.Calls.{compareLength, compareStatus, compareList};
 ghost use Rattle.ravinebowl.specs.Calls.{compareRecordsStatus, compareRecordsList};
-ghost use Rattle.ravinebowl.specs.Calls.{nearestStatus, nearestList, removalStatus, mismatchStatus, mismatchList};
+ghost use Rattle.ravinebowl.specs.Calls.{nearestStatus, nearestList, mismatchStatus, mismatchList};
+ghost use Rattle.ravinebowl.specs.Calls.{removalStatus, insertionStatus};
 ghost use Rattle.edit.specs.code.Removal.{listAfter};
+ghost use Rattle.edit.specs.code.Insertion.{insertionList};
 
 // Copies numbers to a list, from a place on.
 fn write(numbers: &[i64], list: &mut [i64], from: usize)
@@ -138,6 +140,26 @@ pub extern "C" fn ravinebowl_remove_corner(
     ensures list { λ _. ⌜ now (out .exit) ≡ listAfter (now (outline .entry)) corner (now (out .entry)) ⌝ }
 {
     match calls::remove_corner(outline, corner, out) {
+        Verdict::Taken => status::answered(),
+        Verdict::Refused(refusal) => status::refused(refusal),
+    }
+}
+
+// Inserts the point (x, y) as corner `place` into the outline that the counterclockwise list `outline` gives, and writes
+// the corners of the result to `out`, in their order. Refusals, in this order: 1 to 6 for the outline, 8, 7, 3, 9, and 5
+// and 6 for the result, with places in the result; 9 is for an `out` of the wrong length.
+#[no_mangle]
+pub extern "C" fn ravinebowl_insert_corner(
+    outline: &[i32],
+    place: usize,
+    x: i32,
+    y: i32,
+    out: &mut [i32],
+) -> Status
+    ensures status { λ r. ⌜ r ≡ insertionStatus (now (outline .entry)) place (record { x = x; y = y }) (now (out .entry)) ⌝ }
+    ensures list { λ _. ⌜ now (out .exit) ≡ insertionList (now (outline .entry)) place (record { x = x; y = y }) (now (out .entry)) ⌝ }
+{
+    match calls::insert_corner(outline, place, Corner { x, y }, out) {
         Verdict::Taken => status::answered(),
         Verdict::Refused(refusal) => status::refused(refusal),
     }

@@ -1,14 +1,17 @@
 -- The checks in two parts: 1 to 4, whose verdict is u, and the others.
 --     enough, in-range                   where 1 to 4 take, there are three corners or more, and all are in range
 --     strict-stops, either-stops         where they refuse, so does the strict reading, and so does the default one
---     strict-convex, either-convex       where they take and the corners are strictly convex as held, the reading takes
---     strict-shape, either-shape         otherwise 5 and then 6 decide
+--     either-convex                      where they take and the corners are strictly convex as held, the default one takes
+--     either-shape                       and where the corners are not, 5 and then 6 decide it
+--     strict-shape                       where they take, 5 and then 6 decide the strict one
+--     convex-shape                       5 and 6 take three corners or more that are strictly convex
 use Prim.Native.Nat.{_≤_}
 use mathlib.Core.Bool.{Bool, true, false}
 use mathlib.Core.List.{List, [], _∷_, _++_}
 use mathlib.Core.Path.{_≡_, sym, _∙_}
 use lib.IntN.{ℤ}
 use lib.ListN.{length}
+use Rattle.plane.specs.declared.Corner.{Corner}
 use Rattle.outline.specs.declared.Orientation.{Orientation}
 use Rattle.outline.specs.declared.Refusal.{Refusal}
 use Rattle.outline.specs.declared.RefusedSide.{RefusedSide}
@@ -21,12 +24,17 @@ use Rattle.outline.specs.code.Checks.{first}
 use Rattle.outline.specs.code.Either.{orientationOf, checkEitherConvex, checkEither}
 use Rattle.outline.specs.code.Reading.{lengthChecks, checkRange, checkRepeated, checkConvex, check}
 use Rattle.outline.specs.code.Turns.{isConvex}
-use Rattle.outline.proofs.Acceptance.{range-taken, lengths-sized, convex-accepted}
+use Rattle.outline.proofs.Acceptance.{range-taken, shape-taken, lengths-sized}
 use Rattle.outline.proofs.ChecksLaws.{taken≢refused, not-refused, orElse-taken, append-stops, append-goes-on}
 use Rattle.outline.proofs.EitherLaws.{convex-either}
 use Rattle.outline.proofs.TurnsLaws.{isConvex-true}
 use Rattle.reading.specs.Numbers.{numberChecks, checkNumbers}
 use Rattle.reading.specs.Shape.{checkShape}
+
+pub convex-shape : (whose : RefusedSide) (cs : List Corner) → fewest ≤ length cs → {b : Bool} → b ≡ isConvex cs → b ≡ true
+    → Taken ≡ checkShape whose cs
+convex-shape whose cs enough told convex =
+    sym (shape-taken cs whose enough .1 (isConvex-true cs .0 (sym told ∙ convex)))
 
 module _ (whose : RefusedSide) (s : List ℤ) {u : Verdict} (is : u ≡ checkNumbers whose s) where
   module _ {r : Refusal} (refuses : u ≡ Refused r) where
@@ -62,10 +70,6 @@ module _ (whose : RefusedSide) (s : List ℤ) {u : Verdict} (is : u ≡ checkNum
     pub strict-shape : {v : Verdict} → v ≡ checkShape whose (corners s) → v ≡ check whose s
     unfolding check
     strict-shape = goes-on (checkRepeated whose (corners s) ∷ checkConvex whose (corners s) ∷ [])
-
-    pub strict-convex : {b : Bool} → b ≡ isConvex (corners s) → b ≡ true → Taken ≡ check whose s
-    strict-convex told convex =
-        sym (convex-accepted whose s lengths in-range (isConvex-true (corners s) .0 (sym told ∙ convex)))
 
     module _ {o : Orientation} {b : Bool} (found : o ≡ orientationOf (corners s))
         (told : b ≡ isConvex (asHeld o (corners s))) where

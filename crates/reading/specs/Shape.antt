@@ -1,4 +1,4 @@
--- The checks that are made only where the corners, as held, are not strictly convex. For the code alone.
+-- The checks that are made after those of the numbers. For the code alone.
 use mathlib.Core.List.{List, [], _∷_}
 use Rattle.plane.specs.declared.Corner.{Corner}
 use Rattle.outline.specs.declared.RefusedSide.{RefusedSide}

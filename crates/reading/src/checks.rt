@@ -31,18 +31,20 @@ ghost use Rattle.outline.specs.code.Turns.{isConvex};
 ghost use Rattle.outline.specs.code.Reading.{isOutOfRange, isRepeated};
 ghost use Rattle.outline.specs.code.Reading.{lengthChecks, checkRange, checkRepeated, checkEdge, checkConvex, check};
 
-// The numbers of the refusals.
+// The numbers of the refusals of a list, and of a point.
 const ODD_LENGTH: u32 = 1;
 
 pub const TOO_FEW: u32 = 2;
 
-const TOO_MANY: u32 = 3;
+pub const TOO_MANY: u32 = 3;
 
 const OUT_OF_RANGE: u32 = 4;
 
 const REPEATED: u32 = 5;
 
 const NOT_LEFT: u32 = 6;
+
+pub const POINT_OUT_OF_RANGE: u32 = 7;
 
 // 1, 2 and 3: the length of the list.
 fn check_length(s: &[i32], whose: RefusedSide) -> Verdict
@@ -190,17 +192,6 @@ fn check_convex(s: &[i32], whose: RefusedSide) -> Verdict
     Verdict::Taken
 }
 
-// 5 and then 6.
-fn check_shape(s: &[i32], whose: RefusedSide) -> Verdict
-    requires { ⌜ AllInRange (corners (now s)) ⌝ }
-    ensures { λ r. ⌜ r ≡ checkShape whose (corners (now (s .entry))) ⌝ }
-{
-    if let Verdict::Refused(refusal) = check_repeated(s, whose) {
-        return Verdict::Refused(refusal);
-    }
-    check_convex(s, whose)
-}
-
 // A corner that the pass over the corners visits: where it is, and the differences to it from corner 0 and from the
 // corner before.
 struct Visit {
@@ -279,17 +270,28 @@ fn is_convex(s: &[i32], orientation: Orientation) -> bool
     true
 }
 
-// All checks of the strict reading, which takes counterclockwise lists only: what the first that refuses answers. Three
-// or more strictly convex corners have no equal neighbours, and fewer get 2: so 5 and 6 are looked for only where the
+// 5 and then 6. Three or more strictly convex corners have no equal neighbours: so both are looked for only where the
 // corners are not strictly convex.
+pub fn check_shape(s: &[i32], whose: RefusedSide) -> Verdict
+    requires { ⌜ fewest ≤ length (corners (now s)) ⌝ }
+    requires { ⌜ AllInRange (corners (now s)) ⌝ }
+    ensures { λ r. ⌜ r ≡ checkShape whose (corners (now (s .entry))) ⌝ }
+{
+    if is_convex(s, Orientation::Counterclockwise) {
+        return Verdict::Taken;
+    }
+    if let Verdict::Refused(refusal) = check_repeated(s, whose) {
+        return Verdict::Refused(refusal);
+    }
+    check_convex(s, whose)
+}
+
+// All checks of the strict reading, which takes counterclockwise lists only: what the first that refuses answers.
 pub fn check(s: &[i32], whose: RefusedSide) -> Verdict
     ensures { λ r. ⌜ r ≡ check whose (now (s .entry)) ⌝ }
 {
     if let Verdict::Refused(refusal) = check_numbers(s, whose) {
         return Verdict::Refused(refusal);
-    }
-    if is_convex(s, Orientation::Counterclockwise) {
-        return Verdict::Taken;
     }
     check_shape(s, whose)
 }

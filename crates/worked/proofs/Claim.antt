@@ -14,6 +14,8 @@ use Rattle.nearest.specs.Search.{tried, least}
 use Rattle.nearest.specs.code.Call.{checkNearest}
 use Rattle.edit.specs.Removal.{without}
 use Rattle.edit.specs.code.Removal.{checkRemoval}
+use Rattle.edit.specs.Insertion.{inserted}
+use Rattle.edit.specs.code.Insertion.{checkInsertion}
 use Rattle.plane.specs.Direction.{isFirstHalf, isBefore, sameDirection}
 use Rattle.plane.specs.Point.{_⇢_}
 use Rattle.integers.specs.code.Root.{rootBy}
@@ -27,17 +29,17 @@ use Rattle.hausdorff.specs.code.Report.{report}
 use Rattle.hausdorff.specs.code.Call.{checkPair}
 use Rattle.records.specs.Chain.{records, walkFrom}
 use Rattle.records.specs.code.Call.{checkRecords}
-use Rattle.worked.specs.Cases.{All, cases, S, T, star, straight, clockwise, straightBack, twice, wedge, moved}
+use Rattle.worked.specs.Cases.{All, cases, S, T, halved, star, straight, clockwise, straightBack, twice, wedge, moved}
 use Rattle.worked.specs.Cases.{turned, low, high, S3, T3, upward, downward, square, squareBack, squareMoved, flat}
 use Rattle.worked.specs.Cases.{tall, kite, kiteBack, thin, wide, needle, long, longBent, short, shortBent, store}
 
 pub claim : All cases
 unfolding inRange _⇀_ cross dot same fold corners next checkRange checkRepeated checkEdge checkConvex check checkPair
-    without checkRemoval feature tried least checkNearest isFirstHalf isBefore sameDirection _⇢_
+    without checkRemoval inserted checkInsertion feature tried least checkNearest isFirstHalf isBefore sameDirection _⇢_
     rootBy precedes insert sort angularOrder liesAt isCounted firstStart passAll measured worstAfter report
     orientationOf givenCorner checkEitherConvex checkEither isConvex wholeUnits
-    S T star straight clockwise straightBack twice wedge moved turned low high S3 T3 upward downward
+    S T halved star straight clockwise straightBack twice wedge moved turned low high S3 T3 upward downward
     square squareBack squareMoved flat tall kite kiteBack thin wide needle long longBent short shortBent store
     records walkFrom checkRecords
 claim =
-    (refl, (refl, (refl, (refl, (refl, (refl, (refl, (refl, (refl, (refl, (refl, (refl, ((refl, refl), ((refl, refl), ((refl, refl), ((refl, refl), ((refl, refl), (refl, (refl, (refl, (refl, (refl, (refl, (refl, (refl, (refl, (refl, (refl, (refl, (refl, (refl, (refl, (refl, (refl, (refl, (refl, (refl, (refl, (refl, (refl, (refl, (refl, (refl, (refl, (refl, (refl, (refl, (refl, (refl, (refl, (refl, (refl, (refl, (refl, (refl, (refl, (refl, (refl, (refl, (refl, (refl, (refl, (refl, (refl, (refl, (refl, (refl, (refl, (refl, (refl, (refl, (refl, (refl, ((refl, refl, refl), ((refl, refl, refl), ((refl, refl, refl), ((refl, refl, refl), ((refl, refl, refl), ((refl, refl, refl), ((refl, refl, refl), (refl, (refl, (refl, (refl, (refl, (refl, (refl, (refl, (refl, (refl, (refl, (refl, (refl, (refl, (refl, (refl, (refl, (refl, (refl, (refl, (refl, (refl, (refl, (refl, (refl, (refl, (refl, (refl, (refl, (refl, (refl, tt)))))))))))))))))))))))))))))))))))))))))))))))))))))))))))))))))))))))))))))))))))))))))))))))))))))))))))))))
+    (refl, (refl, (refl, (refl, (refl, (refl, (refl, (refl, (refl, (refl, (refl, (refl, ((refl, refl), ((refl, refl), ((refl, refl), ((refl, refl), ((refl, refl), ((refl, refl), ((refl, refl), ((refl, refl), ((refl, refl), ((refl, refl), ((refl, refl), ((refl, refl), ((refl, refl), ((refl, refl), ((refl, refl), ((refl, refl), ((refl, refl), ((refl, refl), (refl, (refl, (refl, (refl, (refl, (refl, (refl, (refl, (refl, (refl, (refl, (refl, (refl, (refl, (refl, (refl, (refl, (refl, (refl, (refl, (refl, (refl, (refl, (refl, (refl, (refl, (refl, (refl, (refl, (refl, (refl, (refl, (refl, (refl, (refl, (refl, (refl, (refl, (refl, (refl, (refl, (refl, (refl, (refl, (refl, (refl, (refl, (refl, (refl, (refl, (refl, (refl, (refl, (refl, (refl, (refl, ((refl, refl, refl), ((refl, refl, refl), ((refl, refl, refl), ((refl, refl, refl), ((refl, refl, refl), ((refl, refl, refl), ((refl, refl, refl), (refl, (refl, (refl, (refl, (refl, (refl, (refl, (refl, (refl, (refl, (refl, (refl, (refl, (refl, (refl, (refl, (refl, (refl, (refl, (refl, (refl, (refl, (refl, (refl, (refl, (refl, (refl, (refl, (refl, (refl, (refl, tt))))))))))))))))))))))))))))))))))))))))))))))))))))))))))))))))))))))))))))))))))))))))))))))))))))))))))))))))))))))))))))

@@ -1,7 +1,7 @@
 -- The proved examples of section 10 of docs/SPECIFICATION.md, and what each claims.
 use Prim.Native.Nat.{ℕ}
 use mathlib.Core.Path.{_≡_}
-use mathlib.Core.List.{List, [], _∷_}
+use mathlib.Core.List.{List, [], _∷_, _++_}
 use lib.IntN.{ℤ, pos, negsuc}
 use lib.ListN.{length}
 use Rattle.plane.specs.declared.Corner.{Corner}
@@ -10,6 +10,7 @@ use Rattle.outline.specs.declared.Orientation.the-variants.{Counterclockwise, C
 use Rattle.outline.specs.declared.Refusal.{Refusal}
 use Rattle.outline.specs.declared.Verdict.{Verdict}
 use Rattle.outline.specs.declared.Verdict.the-variants.{Taken, Refused}
+use Rattle.outline.specs.declared.Place.{Place}
 use Rattle.outline.specs.declared.Place.the-variants.{Nowhere, At, EdgeAndCorner}
 use Rattle.outline.specs.declared.RefusedSide.{RefusedSide}
 use Rattle.outline.specs.declared.RefusedSide.the-variants.{NoSide, Of}
@@ -25,6 +26,7 @@ use Rattle.nearest.specs.Given.{givenNearest}
 use Rattle.nearest.specs.code.Call.{nearestAnswer}
 use Rattle.nearest.specs.Search.{search}
 use Rattle.edit.specs.code.Removal.{removalVerdict, listAfter}
+use Rattle.edit.specs.code.Insertion.{insertionVerdict, insertionList}
 use Rattle.outline.specs.declared.Side.{Side}
 use Rattle.outline.specs.declared.Side.the-variants.{A, B}
 use Rattle.hausdorff.specs.declared.CornerGap.{CornerGap}
@@ -50,6 +52,8 @@ pub data Case : Type 0 where
   reads : List ℤ → Verdict → List ℤ → Orientation → Case
   -- removing a corner of the list, with a list to write, ends so and leaves that list so
   removes : List ℤ → ℕ → List ℤ → Verdict → List ℤ → Case
+  -- inserting a point as a corner of the list, with a list to write, ends so and leaves that list so
+  inserts : List ℤ → ℕ → Corner → List ℤ → Verdict → List ℤ → Case
   -- the nearest point of the list's outline to a point is answered so
   nears : Corner → List ℤ → NearestAnswer → Case
   -- the exhaustive search for a point finds this, by the list as given
@@ -75,6 +79,7 @@ Holds (readsStrictly s ends) = reading NoSide s .verdict ≡ ends
 Holds (reads s ends as-held o) =
     eitherReading NoSide s ≡ record { verdict = ends; outline = held (corners as-held); orientation = o }
 Holds (removes s k out ends after) = (removalVerdict s k out ≡ ends) × (listAfter s k out ≡ after)
+Holds (inserts s k v out ends after) = (insertionVerdict s k v out ≡ ends) × (insertionList s k v out ≡ after)
 Holds (nears v s ends) = nearestAnswer v s ≡ ends
 Holds (searches v s found) =
     givenNearest (orientationOf (corners s)) (length (corners s)) (search (heldCorners s) v) ≡ found
@@ -99,6 +104,10 @@ S = pos 0 ∷ pos 0 ∷ pos 4 ∷ pos 0 ∷ pos 4 ∷ pos 4 ∷ pos 0 ∷ pos 4 
 -- a triangle: (0,0) (4,0) (0,4)
 unfoldable pub T : List ℤ
 T = pos 0 ∷ pos 0 ∷ pos 4 ∷ pos 0 ∷ pos 0 ∷ pos 4 ∷ []
+
+-- S without corner 1: (0,0) (4,4) (0,4)
+unfoldable pub halved : List ℤ
+halved = pos 0 ∷ pos 0 ∷ pos 4 ∷ pos 4 ∷ pos 0 ∷ pos 4 ∷ []
 
 -- a star: it turns left at each corner
 unfoldable pub star : List ℤ
@@ -191,6 +200,10 @@ four = pos 7 ∷ pos 7 ∷ pos 7 ∷ pos 7 ∷ []
 abbrev pub six : List ℤ
 six = pos 7 ∷ pos 7 ∷ four
 
+-- one of eight
+abbrev pub eight : List ℤ
+eight = pos 7 ∷ pos 7 ∷ six
+
 -- refusal 6, with its edge and corner
 abbrev notLeft : RefusedSide → ℕ → ℕ → Refusal
 notLeft whose e c = record { number = 6; side = whose; place = EdgeAndCorner e c }
@@ -202,6 +215,10 @@ tooFew = record { number = 2; side = NoSide; place = Nowhere }
 -- refusal 7
 abbrev pointOut : Refusal
 pointOut = record { number = 7; side = NoSide; place = Nowhere }
+
+-- a refusal without a side, with this number and place
+abbrev refusalWith : ℕ → Place → Refusal
+refusalWith number place = record { number = number; side = NoSide; place = place }
 
 -- a refusal of a side with this number, without a place
 abbrev refusalOf : Side → ℕ → Refusal
@@ -431,12 +448,30 @@ cases =
     ∷ reads star (Refused (notLeft NoSide 0 3)) [] Counterclockwise
     ∷ reads straight (Refused (notLeft NoSide 0 2)) [] Counterclockwise
     ∷ reads straightBack (Refused (notLeft NoSide 0 2)) [] Counterclockwise
-    ∷ removes S 1 six Taken (pos 0 ∷ pos 0 ∷ pos 4 ∷ pos 4 ∷ pos 0 ∷ pos 4 ∷ [])
+    ∷ removes S 1 six Taken halved
     ∷ removes T 0 four (Refused tooFew) four
     ∷ removes T 1 four (Refused tooFew) four
     ∷ removes T 2 four (Refused tooFew) four
     -- the list is read strictly
     ∷ removes clockwise 0 four (Refused (notLeft NoSide 0 2)) four
+    ∷ inserts halved 1 (point (pos 4) (pos 0)) eight Taken S
+    ∷ inserts T 2 (point (pos 4) (pos 4)) eight Taken S
+    -- before the first corner, and after the last
+    ∷ inserts T 0 (point (negsuc 0) (pos 2)) eight Taken (negsuc 0 ∷ pos 2 ∷ T)
+    ∷ inserts T 3 (point (negsuc 0) (pos 2)) eight Taken (T ++ (negsuc 0 ∷ pos 2 ∷ []))
+    -- a place past the count; a point out of range; a list to write that is too short for a result that would get 6
+    ∷ inserts T 4 (point (pos 16001) (pos 0)) six (Refused (refusalWith 8 Nowhere)) six
+    ∷ inserts T 3 (point (pos 16001) (pos 0)) six (Refused pointOut) six
+    ∷ inserts T 1 (point (pos 1) (pos 1)) six (Refused (refusalWith 9 Nowhere)) six
+    -- the point equal to the corner after it, and to the last one; 6 would apply to both too
+    ∷ inserts T 1 (point (pos 4) (pos 0)) eight (Refused (refusalWith 5 (At 1))) eight
+    ∷ inserts T 0 (point (pos 0) (pos 4)) eight (Refused (refusalWith 5 (At 3))) eight
+    -- the point on an edge, and in the piece
+    ∷ inserts T 1 (point (pos 2) (pos 0)) eight (Refused (notLeft NoSide 0 2)) eight
+    ∷ inserts T 3 (point (pos 1) (pos 1)) eight (Refused (notLeft NoSide 2 0)) eight
+    -- the outline comes first, and is read strictly
+    ∷ inserts star 9 (point (pos 16001) (pos 0)) six (Refused (notLeft NoSide 0 3)) six
+    ∷ inserts clockwise 1 (point (negsuc 0) (pos 2)) eight (Refused (notLeft NoSide 0 2)) eight
     ∷ nears (point (pos 6) (pos 6)) wedge (NearestAnswer.Found edgeOne)
     ∷ nears (point (pos 12) (pos 9)) wedge (NearestAnswer.Found (cornerOne 90))
     -- the foot on edge 0 is its end; on the border; at a corner

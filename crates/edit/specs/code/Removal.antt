@@ -1,6 +1,5 @@
 -- Removing a corner, computed: `proofs/Removal.antt` shows that the checks decide the conditions.
 use Prim.Native.Nat.{ℕ}
-use mathlib.Core.Bool.{not}
 use mathlib.Core.List.{List, [], _∷_, _++_}
 use lib.Dec.{leb, eqb}
 use lib.IntN.{ℤ}
@@ -14,15 +13,15 @@ use Rattle.outline.specs.code.Checks.{refuseIf, first, ifTaken}
 use Rattle.outline.specs.code.Reading.{checks}
 use Rattle.outline.specs.Corners.{corners}
 use Rattle.outline.specs.Refusal.{refusal}
-use Rattle.edit.specs.Removal.{without, smallest, noSuchCorner, justThree, wrongLength}
+use Rattle.edit.specs.Removal.{without, smallest, noSuchCorner, justThree}
+use Rattle.edit.specs.code.Edit.{checkRoom}
 
 -- 8, 2 and 9
 abbrev pub ownChecks : List Corner → ℕ → ℕ → List Verdict
 ownChecks cs k room =
     refuseIf (leb (length cs) k) (refusal (noSuchCorner cs k) Nowhere)
     ∷ refuseIf (eqb (length cs) smallest) (refusal (justThree cs) Nowhere)
-    ∷ refuseIf (not (eqb room (length (coordinates (without k cs)))))
-    (refusal (wrongLength (without k cs) room) Nowhere)
+    ∷ checkRoom (without k cs) room
     ∷ []
 
 -- all checks, in the order of the conditions

@@ -1,14 +1,16 @@
--- For the code that writes the other corners.
-use Prim.Native.Nat.{ℕ, zero, suc, _<_}
+-- For the code that writes the corners of an edited outline.
+use Prim.Native.Nat.{ℕ, zero, suc, _≤_, _<_}
 use mathlib.Core.Path.{_≡_}
 use mathlib.Core.List.{List}
 use lib.IntN.{ℤ}
 use lib.ListN.{length}
+use Rattle.plane.specs.declared.Corner.{Corner}
 use Rattle.plane.specs.Vector.{coordinates}
 use Rattle.outline.specs.Corners.{corners}
 use Rattle.edit.specs.Removal.{without}
+use Rattle.edit.specs.Insertion.{inserted}
 
--- what it needs: the list has corner k, and what remains fills the list to write
+-- what removing needs: the list has corner k, and what remains fills the list to write
 pub record Removable (s : List ℤ) (k : ℕ) (out : List ℤ) : Type 0 where
   pub known : k < length (corners s)
   pub long : length out ≡ length (coordinates (without k (corners s)))
@@ -18,3 +20,8 @@ abbrev pub oldNumber : ℕ → ℕ → ℕ
 oldNumber zero i = suc i
 oldNumber (suc k) zero = zero
 oldNumber (suc k) (suc i) = suc (oldNumber k i)
+
+-- what inserting needs: the list has at least k corners, and the result fills the list to write
+pub record Insertable (s : List ℤ) (k : ℕ) (v : Corner) (out : List ℤ) : Type 0 where
+  pub known : k ≤ length (corners s)
+  pub long : length out ≡ length (coordinates (inserted k v (corners s)))

@@ -1,28 +1,24 @@
 -- The call for the nearest point, computed: `proofs/CallLaws.antt` shows that the checks decide the conditions.
-use mathlib.Core.Bool.{not}
 use mathlib.Core.List.{List, [], _∷_, _++_}
 use lib.IntN.{ℤ}
 use lib.ListN.{length}
 use Rattle.plane.specs.declared.Corner.{Corner}
-use Rattle.plane.specs.code.Range.{inRange}
-use Rattle.outline.specs.declared.Place.the-variants.{Nowhere}
 use Rattle.outline.specs.declared.RefusedSide.the-variants.{NoSide}
 use Rattle.outline.specs.declared.Verdict.{Verdict}
 use Rattle.outline.specs.declared.Verdict.the-variants as Verdict
-use Rattle.outline.specs.code.Checks.{refuseIf, first}
+use Rattle.outline.specs.code.Checks.{first}
 use Rattle.outline.specs.code.Either.{orientationOf, heldCorners, eitherChecks}
+use Rattle.outline.specs.code.Reading.{checkPoint}
 use Rattle.outline.specs.Corners.{corners}
-use Rattle.outline.specs.Refusal.{refusal}
 use Rattle.nearest.specs.declared.NearestAnswer.{NearestAnswer}
 use Rattle.nearest.specs.declared.NearestAnswer.the-variants.{Found, Refused}
-use Rattle.nearest.specs.Call.{pointOutOfRange}
 use Rattle.nearest.specs.Given.{givenNearest}
 use Rattle.nearest.specs.declared.NearestPoint.{NearestPoint}
 use Rattle.nearest.specs.code.Local.{nearest}
 
 -- all checks, in the order of the conditions
 abbrev pub nearestChecks : Corner → List ℤ → List Verdict
-nearestChecks v s = eitherChecks NoSide s ++ (refuseIf (not (inRange v)) (refusal (pointOutOfRange v) Nowhere) ∷ [])
+nearestChecks v s = eitherChecks NoSide s ++ (checkPoint v ∷ [])
 
 -- what the first that refuses answers
 unfoldable pub checkNearest : Corner → List ℤ → Verdict

@@ -1,5 +1,5 @@
--- The strict reading, computed: a check for each condition of rule 2.4, in their order. `whose` is the side that a
--- refusal names. `proofs/Acceptance.antt` shows that the checks decide the conditions.
+-- The strict reading, computed: a check for each condition of rule 2.4, in their order, and that of 7, of a point.
+-- `whose` is the side that a refusal names. `proofs/Acceptance.antt` shows that the checks decide the conditions.
 use Prim.Native.Nat.{ℕ, _%_}
 use mathlib.Core.Bool.{Bool, not, _&&_}
 use mathlib.Core.List.{List, [], _∷_, _++_}
@@ -15,7 +15,7 @@ use Rattle.outline.specs.declared.Verdict.{Verdict}
 use Rattle.outline.specs.declared.Reading.{Reading}
 use Rattle.outline.specs.Corners.{corners, corner, next, edge, held, fewest, most}
 use Rattle.outline.specs.Refusal.{refusal}
-use Rattle.outline.specs.Conditions.{oddLength, tooFew, tooMany, outOfRange, repeated, notLeft}
+use Rattle.outline.specs.Conditions.{oddLength, tooFew, tooMany, outOfRange, repeated, notLeft, pointOutOfRange}
 use Rattle.outline.specs.code.Checks.{refuseIf, first, each, ifTaken}
 
 -- 4, tested: corner i is out of range
@@ -32,6 +32,10 @@ isNotLeft cs e c =
     not (eqb c e)
     && not (eqb c (next (length cs) e))
     && not (isLeft (corner cs e) (edge cs e) (corner cs c))
+
+-- 7
+abbrev pub checkPoint : Corner → Verdict
+checkPoint v = refuseIf (not (inRange v)) (refusal (pointOutOfRange v) Nowhere)
 
 module _ (whose : RefusedSide) where
   -- 1

@@ -1,10 +1,10 @@
--- `call_cases::report::print_all` is safe: each index is below the length.
+-- `case_lines::edits::print_all` is safe: each index is below the length.
 use borrow.Author.Needs.{needs}
 use Prim.Native.Nat.{_-_}
 use mathlib.Core.Path.{_≡_}
 use lib.ListN.{length}
-use Rattle.call_cases.proofs.report.print_all.Statement.{statement}
-use Rattle.call_cases.proofs.report.print_all.Tie as tie
+use Rattle.case_lines.proofs.edits.print_all.Statement.{statement}
+use Rattle.case_lines.proofs.edits.print_all.Tie as tie
 
 abbrev Inv-loop : tie.InvT-loop
 Inv-loop s i₀ i-end i = i-end ≡ length s

@@ -1,10 +1,10 @@
--- `edit::old_number` is i before k and i + 1 from k on.
+-- `editing::removal::old_number` is i before k and i + 1 from k on.
 use borrow.Author.Needs.{needs}
 use mathlib.Core.Path.{sym, _∙_}
 use native.Mathlib.Numerals.{add-one}
 use Rattle.edit.proofs.Without.{oldNumber-before, oldNumber-after}
-use Rattle.edit.proofs.old_number.Statement.{statement}
-use Rattle.edit.proofs.old_number.Tie as tie
+use Rattle.editing.proofs.removal.old_number.Statement.{statement}
+use Rattle.editing.proofs.removal.old_number.Tie as tie
 
 returns : tie.Need-returns
 returns c = sym (oldNumber-before (c .before .args .k) (c .before .args .i) (c .if1 .taken))

@@ -1,8 +1,8 @@
--- `call_cases::report::print_refusal` is safe: what is appended to a text is a text.
+-- `case_lines::print_refusal` is safe: what is appended to a text is a text.
 use borrow.Author.Needs.{needs}
 use Rattle.answer_text.proofs.AppendedLaws.{empty-text, longer-text}
-use Rattle.call_cases.proofs.report.print_refusal.Statement.{statement}
-use Rattle.call_cases.proofs.report.print_refusal.Tie as tie
+use Rattle.case_lines.proofs.print_refusal.Statement.{statement}
+use Rattle.case_lines.proofs.print_refusal.Tie as tie
 
 write-requires : tie.Need-write-requires
 write-requires c κs =

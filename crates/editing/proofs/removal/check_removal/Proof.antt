@@ -1,4 +1,4 @@
--- `edit::check_removal` checks the list and then makes the three tests in order.
+-- `editing::removal::check_removal` checks the list and then makes the three tests in order.
 use borrow.Author.Needs.{needs}
 use borrow.Author.Tests.{le-leb, lt-leb, eq-eqb, ne-eqb}
 use mathlib.Core.Logic.{_≢_}
@@ -19,11 +19,12 @@ use Rattle.outline.specs.code.Reading.{checks, check}
 use Rattle.outline.specs.Refusal.{refusal}
 use Rattle.outline.proofs.ChecksLaws.{append-stops, append-goes-on}
 use Rattle.outline.proofs.CornersLaws.{corners-fit}
-use Rattle.edit.specs.Removal.{without, smallest, noSuchCorner, justThree, wrongLength}
+use Rattle.edit.specs.Edit.{wrongLength}
+use Rattle.edit.specs.Removal.{without, smallest, noSuchCorner, justThree}
 use Rattle.edit.specs.code.Removal.{ownChecks, checkRemoval}
 use Rattle.edit.proofs.Without.{numbers-without}
-use Rattle.edit.proofs.check_removal.Statement.{statement}
-use Rattle.edit.proofs.check_removal.Tie as tie
+use Rattle.editing.proofs.removal.check_removal.Statement.{statement}
+use Rattle.editing.proofs.removal.check_removal.Tie as tie
 
 module _ (s : List ℤ) (k room : ℕ) where
   abbrev n : ℕ

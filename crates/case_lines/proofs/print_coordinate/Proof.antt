@@ -1,8 +1,8 @@
--- `call_cases::report::print_coordinate` is safe: a number of 32 bits fits 64.
+-- `case_lines::print_coordinate` is safe: a number of 32 bits fits 64.
 use borrow.Author.Needs.{needs}
 use Rattle.integers.proofs.Machine.{field, fits}
-use Rattle.call_cases.proofs.report.print_coordinate.Statement.{statement}
-use Rattle.call_cases.proofs.report.print_coordinate.Tie as tie
+use Rattle.case_lines.proofs.print_coordinate.Statement.{statement}
+use Rattle.case_lines.proofs.print_coordinate.Tie as tie
 
 cast-print-signed : tie.Need-cast-print-signed
 cast-print-signed c = fits (field (c .fits .n)) tt
