@@ -1,5 +1,5 @@
-"""Inserting a corner, from the requirements alone, and its C function, from the requirements and embed/ravinebowl.h
-alone.
+"""Inserting a corner, from the requirements alone, and its C function, from the requirements and what embed/ravinebowl.h
+says of a status and of removing a corner.
 
 Written apart from the proved code, for comparison with it. `answers` gives the lines that the program `insertion_cases`
 prints for a case:
