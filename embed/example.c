@@ -13,6 +13,9 @@ static const int32_t CLOCKWISE[] = {0, 0, 0, 4, 4, 0};
 static const int32_t MOVED[] = {10, 0, 14, 0, 14, 4, 10, 4};
 static const int32_t STAR[] = {0, 3, -2, -3, 3, 1, -3, 1, 2, -3};
 static const int32_t WEDGE[] = {0, 0, 9, 0, 0, 3};
+static const int32_t POINTS[] = {4, 4, 0, 0, 2, 0, 4, 0, 0, 4, 4, 4, 1, 2};
+static const int32_t IN_LINE[] = {4, 2, 0, 0, 2, 1, 4, 2};
+static const int32_t OUTSIDE[] = {0, 0, 4, 0, 4, 16001, 0, -16001};
 
 /* The square from record 3 on and the triangle from record 6 on, their last corner in one record. Record 0 is not read. */
 static const int32_t RECORDS[] = {
@@ -134,7 +137,7 @@ static void nearest_point(int32_t x, int32_t y, const int32_t *outline, size_t l
     printf("\n");
 }
 
-/* A word and the numbers of an edited outline, or the refusal. */
+/* A word and the numbers of an outline, or the refusal. */
 static void print_outline(struct ravinebowl_status status, const char *word, const int32_t *out, size_t length) {
     if (status.code != RAVINEBOWL_ANSWERED) {
         print_refusal(status);
@@ -158,6 +161,32 @@ static void insert_corner(const int32_t *outline, size_t length, size_t place, i
     int32_t out[COUNT(SQUARE)];
     struct ravinebowl_status status = ravinebowl_insert_corner(outline, length, place, x, y, out, room);
     print_outline(status, "results", out, room);
+}
+
+static void print_mark(int32_t mark) {
+    if (mark == RAVINEBOWL_MARK_REPEATS)
+        printf("repeated");
+    else if (mark == RAVINEBOWL_MARK_NO_CORNER)
+        printf("no corner");
+    else
+        printf("corner %" PRId32, mark);
+}
+
+/* `room` and `marks_room` are the lengths of the lists to write, `room` at most that of POINTS, and `marks_room` half of that. */
+static void convex_hull(const int32_t *points, size_t length, size_t room, size_t marks_room) {
+    int32_t out[COUNT(POINTS)], marks[COUNT(POINTS) / 2];
+    int64_t result[RAVINEBOWL_CONVEX_HULL_LENGTH];
+    struct ravinebowl_status status =
+        ravinebowl_convex_hull(points, length, out, room, marks, marks_room, result, COUNT(result));
+    print_outline(status, "hull", out, room);
+    if (status.code != RAVINEBOWL_ANSWERED)
+        return;
+    printf("  corners %" PRId64 ", marks", result[RAVINEBOWL_CONVEX_HULL_COUNT]);
+    for (size_t i = 0; i < marks_room; i++) {
+        printf("%s", i == 0 ? ": " : ", ");
+        print_mark(marks[i]);
+    }
+    printf("\n");
 }
 
 /* A result list with one place too few: the call writes nothing. */
@@ -208,6 +237,13 @@ int main(void) {
     insert_corner(TRIANGLE, COUNT(TRIANGLE), 0, 0, 4, COUNT(TRIANGLE) + 2);
     insert_corner(TRIANGLE, COUNT(TRIANGLE), 3, 1, 1, COUNT(TRIANGLE) + 2);
     insert_corner(CLOCKWISE, COUNT(CLOCKWISE), 1, -1, 2, COUNT(CLOCKWISE) + 2);
+    convex_hull(POINTS, COUNT(POINTS), COUNT(POINTS), COUNT(POINTS) / 2);
+    convex_hull(CLOCKWISE, COUNT(CLOCKWISE), COUNT(CLOCKWISE), COUNT(CLOCKWISE) / 2);
+    convex_hull(IN_LINE, COUNT(IN_LINE), COUNT(IN_LINE), COUNT(IN_LINE) / 2);
+    convex_hull(NULL, 0, 0, 0);
+    convex_hull(OUTSIDE, COUNT(OUTSIDE), COUNT(OUTSIDE), COUNT(OUTSIDE) / 2);
+    convex_hull(POINTS, COUNT(POINTS), COUNT(POINTS) - 1, COUNT(POINTS) / 2);
+    convex_hull(POINTS, COUNT(POINTS), COUNT(POINTS), COUNT(POINTS) / 2 - 1);
     wrong_result_length();
     return 0;
 }

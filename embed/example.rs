@@ -2,7 +2,7 @@
 mod ravinebowl;
 
 use ravinebowl::{
-    Comparison, CornerGap, NearestPoint, Refusal, ENOUGH_STEPS, MISMATCH_UNITS, RECORD_LENGTH,
+    Comparison, CornerGap, Mark, NearestPoint, Refusal, ENOUGH_STEPS, MISMATCH_UNITS, RECORD_LENGTH,
 };
 
 const SQUARE: [i32; 8] = [0, 0, 4, 0, 4, 4, 0, 4];
@@ -12,6 +12,9 @@ const CLOCKWISE: [i32; 6] = [0, 0, 0, 4, 4, 0];
 const MOVED: [i32; 8] = [10, 0, 14, 0, 14, 4, 10, 4];
 const STAR: [i32; 10] = [0, 3, -2, -3, 3, 1, -3, 1, 2, -3];
 const WEDGE: [i32; 6] = [0, 0, 9, 0, 0, 3];
+const POINTS: [i32; 14] = [4, 4, 0, 0, 2, 0, 4, 0, 0, 4, 4, 4, 1, 2];
+const IN_LINE: [i32; 8] = [4, 2, 0, 0, 2, 1, 4, 2];
+const OUTSIDE: [i32; 8] = [0, 0, 4, 0, 4, 16001, 0, -16001];
 
 /// The square from record 3 on and the triangle from record 6 on, their last corner in one record. Record 0 is not read.
 const RECORDS: [[i32; RECORD_LENGTH]; 7] = [
@@ -111,9 +114,9 @@ fn nearest_point(x: i32, y: i32, outline: &[i32]) {
     }
 }
 
-/// A word and the numbers of an edited outline, or the refusal.
-fn print_outline(edited: Result<(), Refusal>, word: &str, out: &[i32]) {
-    match edited {
+/// A word and the numbers of an outline, or the refusal.
+fn print_outline(written: Result<(), Refusal>, word: &str, out: &[i32]) {
+    match written {
         Err(refusal) => println!("{refusal}"),
         Ok(()) => {
             let numbers: String = out.iter().map(|number| format!(" {number}")).collect();
@@ -132,6 +135,19 @@ fn remove_corner(outline: &[i32], corner: usize, out: &mut [i32]) {
 fn insert_corner(outline: &[i32], place: usize, x: i32, y: i32, out: &mut [i32]) {
     let inserted = ravinebowl::insert_corner(outline, place, x, y, out);
     print_outline(inserted, "results", out);
+}
+
+/// `out` and `marks` are the lists to write.
+fn convex_hull(points: &[i32], out: &mut [i32], marks: &mut [i32]) {
+    let hull = ravinebowl::convex_hull(points, out, marks);
+    print_outline(hull.map(|_| ()), "hull", out);
+    if let Ok(count) = hull {
+        let marks: Vec<String> = marks
+            .iter()
+            .map(|&number| Mark::from(number).to_string())
+            .collect();
+        println!("  corners {count}, marks: {}", marks.join(", "));
+    }
 }
 
 /// A result list with one place too few: the call writes nothing. Only a call over slices can be handed one.
@@ -182,5 +198,32 @@ fn main() {
     insert_corner(&TRIANGLE, 0, 0, 4, &mut [0; TRIANGLE.len() + 2]);
     insert_corner(&TRIANGLE, 3, 1, 1, &mut [0; TRIANGLE.len() + 2]);
     insert_corner(&CLOCKWISE, 1, -1, 2, &mut [0; CLOCKWISE.len() + 2]);
+    convex_hull(&POINTS, &mut [0; POINTS.len()], &mut [0; POINTS.len() / 2]);
+    convex_hull(
+        &CLOCKWISE,
+        &mut [0; CLOCKWISE.len()],
+        &mut [0; CLOCKWISE.len() / 2],
+    );
+    convex_hull(
+        &IN_LINE,
+        &mut [0; IN_LINE.len()],
+        &mut [0; IN_LINE.len() / 2],
+    );
+    convex_hull(&[], &mut [], &mut []);
+    convex_hull(
+        &OUTSIDE,
+        &mut [0; OUTSIDE.len()],
+        &mut [0; OUTSIDE.len() / 2],
+    );
+    convex_hull(
+        &POINTS,
+        &mut [0; POINTS.len() - 1],
+        &mut [0; POINTS.len() / 2],
+    );
+    convex_hull(
+        &POINTS,
+        &mut [0; POINTS.len()],
+        &mut [0; POINTS.len() / 2 - 1],
+    );
     wrong_result_length();
 }

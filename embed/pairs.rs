@@ -1,10 +1,11 @@
 //! Compares the generated pairs of crates/pairs through the Rust wrapper, with several allowances each, and prints a line for each
 //! comparison: the lines of crates/pairs/stdout, which a program written apart has made. The input is described in crates/pairs/src/main.rt.
-//! Comparing the corners as chains of linked records must give the same, but for the refusals 1 and 3, which a chain does not get.
-#[allow(dead_code)] // comparing alone is called here
+//! Comparing the corners as chains of linked records must give the same, but for the refusals 1 and 3, which a chain does not get. The
+//! convex hull of the corners of each accepted outline must be that outline, counterclockwise from its lowest corner.
+#[allow(dead_code)] // comparing and the convex hull alone are called here
 mod ravinebowl;
 
-use ravinebowl::{Comparison, CornerGap, Refusal, RECORD_LENGTH};
+use ravinebowl::{Comparison, CornerGap, Mark, Refusal, RECORD_LENGTH};
 use std::io::Read;
 
 /// The next list of the input: its length and its numbers. None at the end.
@@ -71,6 +72,34 @@ fn compare_chains(a: &[i32], b: &[i32], allowance: u32) -> Result<Comparison, Re
     ravinebowl::compare_records(&records, a_start, b_start, allowance)
 }
 
+/// The corners of an accepted outline, counterclockwise from the one of least y, of equals the one of least x: corner 2 is strictly left
+/// of edge 0 exactly if the list is counterclockwise.
+fn from_lowest(outline: &[i32]) -> Vec<[i32; 2]> {
+    let mut corners: Vec<[i32; 2]> = outline.chunks_exact(2).map(|c| [c[0], c[1]]).collect();
+    let [p, q, v] = [corners[0], corners[1], corners[2]];
+    if (q[0] - p[0]) * (v[1] - p[1]) < (q[1] - p[1]) * (v[0] - p[0]) {
+        corners.reverse();
+    }
+    let lowest = (0..corners.len()).min_by_key(|&i| (corners[i][1], corners[i][0]));
+    corners.rotate_left(lowest.unwrap_or(0));
+    corners
+}
+
+/// Whether the convex hull of the corners of an accepted outline is that outline, and each corner has the mark of its place in the hull.
+fn is_own_hull(outline: &[i32]) -> bool {
+    let corners = from_lowest(outline);
+    let mut out = vec![0; outline.len()];
+    let mut marks = vec![0; corners.len()];
+    let hull = ravinebowl::convex_hull(outline, &mut out, &mut marks);
+    let is_marked = |(corner, &mark): (&[i32], &i32)| match Mark::from(mark) {
+        Mark::Corner(i) => corners.get(i).is_some_and(|held| held == corner),
+        _ => false,
+    };
+    hull == Ok(corners.len())
+        && out == corners.as_flattened()
+        && outline.chunks_exact(2).zip(&marks).all(is_marked)
+}
+
 fn main() {
     let mut text = String::new();
     if let Err(error) = std::io::stdin().read_to_string(&mut text) {
@@ -81,6 +110,10 @@ fn main() {
     while let (Some(a), Some(b), Some(allowances)) =
         (list(&mut numbers), list(&mut numbers), list(&mut numbers))
     {
+        if ravinebowl::compare(&a, &b, 0).is_ok() && !(is_own_hull(&a) && is_own_hull(&b)) {
+            eprintln!("the convex hull of {a:?} or of {b:?} is another outline");
+            std::process::exit(1);
+        }
         for allowance in allowances {
             let comparison = ravinebowl::compare(&a, &b, allowance);
             println!("{}", line(comparison));

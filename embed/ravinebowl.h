@@ -1,6 +1,6 @@
-/* Ravinebowl: the Hausdorff distance and the mismatch sum of two convex outlines, the nearest point of an outline, and removing and inserting
- * a corner, in exact whole numbers. The functions are those of crates/ravinebowl, which `rt staticlib ravinebowl` builds as
- * target/staticlib/libravinebowl.a.
+/* Ravinebowl: the Hausdorff distance and the mismatch sum of two convex outlines, the nearest point of an outline, removing and inserting a
+ * corner, and the convex hull of points, in exact whole numbers. The functions are those of crates/ravinebowl, which
+ * `rt staticlib ravinebowl` builds as target/staticlib/libravinebowl.a.
  *
  * Units. Coordinates and the clearance are in whole millimetres; a gap, which is a squared distance, is in square millimetres, and a
  * mismatch sum in whole units of 1/1024 square millimetre.
@@ -8,7 +8,8 @@
  * Lists. A list is a pointer to its first number and the count of its numbers. An outline is a list of coordinates: x and y of
  * corner 0, then of corner 1, and so on. Edge i runs from corner i to corner i + 1, the last edge back to corner 0. An outline is accepted
  * if it has 3 to 256 corners, every coordinate is from -16,000 to 16,000, and it has an orientation: counterclockwise, if every corner other
- * than an edge's two ends is strictly left of that edge, for every edge; clockwise, if it is strictly right, for every edge.
+ * than an edge's two ends is strictly left of that edge, for every edge; clockwise, if it is strictly right, for every edge. The points of
+ * a convex hull are a list of coordinates too, x and y of point 0, then of point 1, and so on, but in no order: they need not be an outline.
  *
  * Strictly left of an edge from (px, py) to (qx, qy) is a point (x, y) for which (qx - px) * (y - py) - (qy - py) * (x - px) is above 0,
  * and strictly right one for which it is below 0.
@@ -19,17 +20,18 @@
  * on. What is said here of the list of an outline goes for these corners in their order. Chains may share records or be the same.
  *
  * Orientation. Comparing, the mismatch sum and the nearest point take outlines of either orientation, removing and inserting a corner take
- * counterclockwise ones alone. Every number of a corner or an edge, in a result and in the place of a refusal, is its number in the list as
- * given, or along the chain, never a record's index: edge i joins corner i to the following one, whichever way round the list goes. Only 5
- * and 6 of the result of inserting a corner have their places in that result.
+ * counterclockwise ones alone, and a convex hull is counterclockwise. Every number of a corner or an edge, in a result and in the place of a
+ * refusal, is its number in the list as given, or along the chain, never a record's index: edge i joins corner i to the following one,
+ * whichever way round the list goes. Only 5 and 6 of the result of inserting a corner have their places in that result, and the marks of a
+ * convex hull name corners of the hull.
  *
  * What a caller must see to. A pointer must be aligned, and good for as many numbers as the count says; a list that is empty may have any
- * pointer. A list that is written (`result`, `out`) must not overlap another list of the same call. Lists that are only read may overlap or
- * be the same. Nothing else is asked: any numbers, counts and lengths get an answer or a code.
+ * pointer. A list that is written (`result`, `out`, `marks`) must not overlap another list of the same call. Lists that are only read may
+ * overlap or be the same. Nothing else is asked: any numbers, counts and lengths get an answer or a code.
  *
  * What the functions do. They keep no state and no pointer, allocate nothing, use some 16 KiB of stack at the most, and always return.
  * Threads may call them at the same time, as long as no list is written that another call reads or writes. A call that does not answer
- * writes to no list: read `result` and `out` only where the code of the status is RAVINEBOWL_ANSWERED.
+ * writes to no list: read `result`, `out` and `marks` only where the code of the status is RAVINEBOWL_ANSWERED.
  */
 #ifndef RAVINEBOWL_H
 #define RAVINEBOWL_H
@@ -41,7 +43,8 @@
 extern "C" {
 #endif
 
-/* Limits of an outline, and a number of steps that is enough for any comparison. */
+/* Limits of an outline, and a number of steps that is enough for any comparison. RAVINEBOWL_MOST_CORNERS and
+ * RAVINEBOWL_LARGEST_COORDINATE are the limits of points given to ravinebowl_convex_hull too. */
 #define RAVINEBOWL_FEWEST_CORNERS 3
 #define RAVINEBOWL_MOST_CORNERS 256
 #define RAVINEBOWL_LARGEST_COORDINATE 16000
@@ -58,16 +61,20 @@ extern "C" {
 enum ravinebowl_code {
     RAVINEBOWL_ANSWERED = 0,             /* the call answered; a comparison that is spent is an answer too */
     RAVINEBOWL_ODD_LENGTH = 1,           /* the list has an odd length */
-    RAVINEBOWL_TOO_FEW_CORNERS = 2,      /* fewer than 3 corners; in removing a corner also: just 3 */
-    RAVINEBOWL_TOO_MANY_CORNERS = 3,     /* more than 256 corners; in inserting a corner also: 256 already */
-    RAVINEBOWL_OUT_OF_RANGE = 4,         /* a corner has a coordinate out of range; place: the lowest such corner */
+    RAVINEBOWL_TOO_FEW_CORNERS = 2,      /* fewer than 3 corners; in removing a corner also: just 3; in finding a convex hull: no points,
+                                          * or all lie in one line */
+    RAVINEBOWL_TOO_MANY_CORNERS = 3,     /* more than 256 corners; in inserting a corner also: 256 already; in finding a convex hull: more
+                                          * than 256 points, repeats counted */
+    RAVINEBOWL_OUT_OF_RANGE = 4,         /* a corner, or a point given to ravinebowl_convex_hull, has a coordinate out of range; place: the
+                                          * number of the first such corner or point */
     RAVINEBOWL_REPEATED = 5,             /* a corner equals the one after it; after the last comes corner 0; place: the lowest such corner */
     RAVINEBOWL_NOT_LEFT = 6,             /* removing and inserting a corner: the list, or the result of inserting, is not
                                           * counterclockwise; the other calls: it fits neither orientation; place, of all calls: the lowest
                                           * edge that some corner, other than its ends, is not strictly left of, and the lowest such corner */
     RAVINEBOWL_POINT_OUT_OF_RANGE = 7,   /* the point is out of range */
     RAVINEBOWL_NO_SUCH_CORNER = 8,       /* no corner has that number; in inserting: the place is past the number of corners */
-    RAVINEBOWL_WRONG_LENGTH = 9,         /* the list to write is not exactly as long as what remains, or as the result of inserting */
+    RAVINEBOWL_WRONG_LENGTH = 9,         /* the list to write is not exactly as long as what remains, or as the result of inserting; of a
+                                          * convex hull: `out` is not as long as the list of points, or `marks` not half as long */
     RAVINEBOWL_PARTIAL_RECORD = 10,      /* the length of the store is not a multiple of 3; always of side A */
     RAVINEBOWL_CHAIN_TOO_LONG = 11,      /* 256 corners of a chain are read and the next index is not 0; place: 256, the corners read */
     RAVINEBOWL_NO_SUCH_RECORD = 12,      /* an index of a chain, its start too, is negative, or neither 0 nor below the number of records;
@@ -75,14 +82,15 @@ enum ravinebowl_code {
     RAVINEBOWL_WRONG_RESULT_LENGTH = 100 /* the result list does not have the length that the call asks for: judged before all else */
 };
 
-/* A side: of a refusal, or of a corner in a result. A refusal of a call with one outline has none. */
+/* A side: of a refusal, or of a corner in a result. A refusal of a call with one outline, or with points, has none. */
 enum ravinebowl_side { RAVINEBOWL_NO_SIDE = 0, RAVINEBOWL_SIDE_A = 1, RAVINEBOWL_SIDE_B = 2 };
 
 /* What every call returns. */
 struct ravinebowl_status {
     uint32_t code;   /* enum ravinebowl_code */
     uint32_t side;   /* enum ravinebowl_side: the outline that is refused, where there are two */
-    uint32_t places; /* how many place numbers the refusal has: 0, 1 (a corner's, or how many are read) or 2 (an edge's and a corner's) */
+    uint32_t places; /* how many place numbers the refusal has: 0, 1 (a corner's or point's, or how many are read) or 2 (an edge's and a
+                      * corner's) */
     size_t first;    /* the first place number, or 0 where there is none */
     size_t second;   /* the second place number, or 0 where there is none */
 };
@@ -161,6 +169,16 @@ enum ravinebowl_mismatch_place {
     RAVINEBOWL_MISMATCH_LENGTH = 1
 };
 
+/* The place of the result list of ravinebowl_convex_hull, and its length. */
+enum ravinebowl_convex_hull_place {
+    RAVINEBOWL_CONVEX_HULL_COUNT = 0, /* how many corners the hull has: 3 to 256 */
+    RAVINEBOWL_CONVEX_HULL_LENGTH = 1
+};
+
+/* The marks that are not the number of a corner. */
+#define RAVINEBOWL_MARK_REPEATS (-1)   /* the point repeats an earlier one, whether that is a corner or not */
+#define RAVINEBOWL_MARK_NO_CORNER (-2) /* it repeats no earlier point, and is no corner of the hull */
+
 /* Compares outlines A and B, each of either orientation, in at most `allowance` steps and writes 32 numbers to `result`. It is done if the
  * allowance is not below the number of edges of both, and otherwise spent. When done, the gap is the squared Hausdorff distance, and A's gap
  * and B's are the two squared directed Hausdorff distances, from A to B and from B to A, of which it is the greater. With the corners of a
@@ -202,6 +220,18 @@ struct ravinebowl_status ravinebowl_remove_corner(const int32_t *outline, size_t
  * or of the result: it is of the result exactly if the outline is accepted, so that ravinebowl_remove_corner gives neither for it. */
 struct ravinebowl_status ravinebowl_insert_corner(const int32_t *outline, size_t outline_length, size_t place, int32_t x, int32_t y,
                                                   int32_t *out, size_t out_length);
+
+/* Finds the convex hull of up to 256 points in any order, repeats and points along straight edges among them: the outline of the smallest
+ * convex piece that holds them all. It starts at the corner of least y, of equals the one of least x, goes counterclockwise, and has no
+ * straight corner: it is an accepted outline. Its corners go to `out`, whose length must be points_length, with zeros after the last corner;
+ * a mark for each point goes to `marks`, whose length must be points_length / 2; and 1 number, the count of the corners, to `result`: the
+ * outline is the first 2 * count numbers of `out`. The mark of a point is RAVINEBOWL_MARK_REPEATS if it repeats an earlier point, else the
+ * number of the corner that it is, else RAVINEBOWL_MARK_NO_CORNER; so the number of each corner is the mark of just one point. Where the
+ * call answers, the same points in another order give the same `out` and `result`. None of `out`, `marks` and `result` may overlap another
+ * list.
+ * Order: 100, then 1, 3, 4, then 9 for either list, then 2. */
+struct ravinebowl_status ravinebowl_convex_hull(const int32_t *points, size_t points_length, int32_t *out, size_t out_length, int32_t *marks,
+                                                size_t marks_length, int64_t *result, size_t result_length);
 
 #ifdef __cplusplus
 }

@@ -2,7 +2,8 @@
 //! Comparing, the mismatch sum and the nearest point take outlines of either orientation, removing and inserting a corner counterclockwise
 //! ones alone. The numbers of corners and edges are those of the list as given: edge i joins corner i to the following one, whichever way
 //! round the list goes; only 5 and 6 of the result of inserting a corner have their places in that result. Comparing takes outlines from
-//! chains of linked records too, whose corners are numbered along the chain.
+//! chains of linked records too, whose corners are numbered along the chain. The convex hull takes points in any order, whose marks name
+//! corners of the hull.
 
 use std::fmt;
 
@@ -72,12 +73,23 @@ extern "C" {
         out: *mut i32,
         out_length: usize,
     ) -> Status;
+    fn ravinebowl_convex_hull(
+        points: *const i32,
+        points_length: usize,
+        out: *mut i32,
+        out_length: usize,
+        marks: *mut i32,
+        marks_length: usize,
+        result: *mut i64,
+        result_length: usize,
+    ) -> Status;
 }
 
 /// The lengths of the result lists.
 pub const COMPARE_LENGTH: usize = 32;
 pub const MISMATCH_LENGTH: usize = 1;
 pub const NEAREST_LENGTH: usize = 7;
+pub const CONVEX_HULL_LENGTH: usize = 1;
 
 /// Where the numbers of the worst corner begin in the result list of a comparison, of A's and of B's.
 const WORST_PLACE: usize = 4;
@@ -95,6 +107,9 @@ pub const RECORD_LENGTH: usize = 3;
 
 /// How many units of a mismatch sum make a square millimetre.
 pub const MISMATCH_UNITS: u64 = 1024;
+
+/// The mark of a point that repeats an earlier one.
+const MARK_REPEATS: i32 = -1;
 
 /// One of the two outlines that are compared.
 #[derive(Clone, Copy, Debug, PartialEq, Eq)]
@@ -165,7 +180,16 @@ pub enum Comparison {
     },
 }
 
-/// The place of a refusal. `At`: a corner; of 11 and 12, how many corners of the chain are read.
+/// What a point is to the convex hull. `Repeats`: it repeats an earlier point. `Corner(i)`: corner i of the hull. `NoCorner`: it is
+/// inside the hull, or on an edge between its ends.
+#[derive(Clone, Copy, Debug, PartialEq, Eq)]
+pub enum Mark {
+    Repeats,
+    Corner(usize),
+    NoCorner,
+}
+
+/// The place of a refusal. `At`: a corner or a point; of 11 and 12, how many corners of the chain are read.
 #[derive(Clone, Copy, Debug, PartialEq, Eq)]
 pub enum Place {
     Nowhere,
@@ -201,6 +225,16 @@ impl fmt::Display for Feature {
     }
 }
 
+impl fmt::Display for Mark {
+    fn fmt(&self, out: &mut fmt::Formatter) -> fmt::Result {
+        match self {
+            Mark::Repeats => write!(out, "repeated"),
+            Mark::Corner(i) => write!(out, "corner {i}"),
+            Mark::NoCorner => write!(out, "no corner"),
+        }
+    }
+}
+
 impl fmt::Display for Fraction {
     fn fmt(&self, out: &mut fmt::Formatter) -> fmt::Result {
         write!(out, "{}/{}", self.upper, self.lower)
@@ -229,6 +263,17 @@ impl fmt::Display for Refusal {
 }
 
 impl std::error::Error for Refusal {}
+
+/// The mark that a number of the list of marks is.
+impl From<i32> for Mark {
+    fn from(number: i32) -> Mark {
+        match number {
+            MARK_REPEATS => Mark::Repeats,
+            0.. => Mark::Corner(number as usize),
+            _ => Mark::NoCorner,
+        }
+    }
+}
 
 fn side(number: i64) -> Option<Side> {
     match number {
@@ -259,7 +304,7 @@ impl Status {
 
 /// As `compare`, with the numbers written to `result`, whose length must be `COMPARE_LENGTH`; ravinebowl.h names its places.
 pub fn compare_into(a: &[i32], b: &[i32], allowance: u32, result: &mut [i64]) -> Status {
-    // SAFETY: each pointer is good for its length, `result` overlaps no other list, and none is kept.
+    // SAFETY: each pointer is good for its length, no list that is written overlaps another, and none is kept.
     unsafe {
         ravinebowl_compare(
             a.as_ptr(),
@@ -319,6 +364,28 @@ pub fn nearest_point_into(x: i32, y: i32, outline: &[i32], result: &mut [i64]) -
             y,
             outline.as_ptr(),
             outline.len(),
+            result.as_mut_ptr(),
+            result.len(),
+        )
+    }
+}
+
+/// As `convex_hull`, with the number of corners written to `result`, whose length must be `CONVEX_HULL_LENGTH`.
+pub fn convex_hull_into(
+    points: &[i32],
+    out: &mut [i32],
+    marks: &mut [i32],
+    result: &mut [i64],
+) -> Status {
+    // SAFETY: as above.
+    unsafe {
+        ravinebowl_convex_hull(
+            points.as_ptr(),
+            points.len(),
+            out.as_mut_ptr(),
+            out.len(),
+            marks.as_mut_ptr(),
+            marks.len(),
             result.as_mut_ptr(),
             result.len(),
         )
@@ -459,4 +526,15 @@ pub fn insert_corner(
         )
     };
     status.answered()
+}
+
+/// Finds the convex hull of up to 256 points, a list of their coordinates in any order, with repeats or without, and gives the number of
+/// its corners. Their coordinates are written to `out`, counterclockwise from the corner of least y, of equals the one of least x, with
+/// zeros after them; `out` must be as long as `points`. What each point is to the hull is written to `marks`, which must be half as long:
+/// `Mark::from` reads its numbers. A refusal leaves both as they were.
+pub fn convex_hull(points: &[i32], out: &mut [i32], marks: &mut [i32]) -> Result<usize, Refusal> {
+    let mut result = [0; CONVEX_HULL_LENGTH];
+    convex_hull_into(points, out, marks, &mut result).answered()?;
+    let [count] = result;
+    Ok(count as usize)
 }

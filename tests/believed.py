@@ -1,4 +1,4 @@
-"""Counts what must be believed of the eight calls: the definitions that their propositions cite, directly or through
+"""Counts what must be believed of the nine calls: the definitions that their propositions cite, directly or through
 other definitions, by file, and their lines without comments and imports. A definition in specs/code/, or one without a
 comment directly above it, is an error. Types declared in src/ and definitions of the library are not counted."""
 import collections
@@ -9,8 +9,9 @@ import sys
 CRATES = pathlib.Path(__file__).resolve().parent.parent / "crates"
 PROPOSITIONS = [("outline", "EitherReading", "IsEitherReading"), ("outline", "Reading", "IsReading"),
                 ("edit", "Removal", "IsRemoval"), ("edit", "Insertion", "IsInsertion"),
-                ("nearest", "Call", "IsNearestAnswer"), ("hausdorff", "Call", "IsComparison"),
-                ("mismatch", "Call", "IsMismatchAnswer"), ("records", "Call", "IsRecordsComparison")]
+                ("hull", "Call", "IsHullAnswer"), ("nearest", "Call", "IsNearestAnswer"),
+                ("hausdorff", "Call", "IsComparison"), ("mismatch", "Call", "IsMismatchAnswer"),
+                ("records", "Call", "IsRecordsComparison")]
 DEFINITION = re.compile(r" *(?=(?:pub )?(?:unfoldable|abbrev|data|record) )(?:(?:unfoldable|abbrev|pub|data|record) )+(\S+)"
                         r"(?: [({][^)}]*[)}])* :(?: |$)")
 IMPORT = re.compile(r"use Rattle·(\w+?)(?:·specs)?\.specs\.([\w.]+)\.\{([^}]*)\}")
@@ -29,7 +30,7 @@ def read(crate, module):
         elif found:
             name = found[1]
             lines[name] = [line]
-            if not above.startswith("--"):
+            if not above.strip().startswith("--"):
                 bare.add(name)
         elif name and line.strip() and not line.strip().startswith("--") and not line.startswith("infix"):
             lines[name].append(line)

@@ -5,9 +5,11 @@ use editing::insertion;
 use editing::removal;
 use hausdorff::Comparison;
 use hausdorff::PairVerdict;
+use hull::HullAnswer;
 use mismatch::MismatchAnswer;
 use nearest::NearestAnswer;
 use outline::EitherReading;
+use outline::FEWEST;
 use outline::Place;
 use outline::Reading;
 use outline::Refusal;
@@ -18,9 +20,12 @@ use plane::Corner;
 use projection::answers;
 use reading::checks;
 use reading::checks::POINT_OUT_OF_RANGE;
+use reading::checks::TOO_FEW;
 use reading::corners;
 use reading::corners::no_numbers;
 use records::ChainsVerdict;
+use wrapping::marks::write_marks;
+use wrapping::points::fill;
 ghost use mathlib.Core.Path.{_≡_};
 ghost use Rattle.outline.specs.declared.RefusedSide.the-variants.{NoSide};
 ghost use Rattle.outline.specs.EitherReading.{IsEitherReading};
@@ -31,6 +36,8 @@ ghost use Rattle.edit.specs.Removal.{IsRemoval};
 ghost use Rattle.edit.specs.code.Removal.{removalVerdict, listAfter};
 ghost use Rattle.edit.specs.Insertion.{IsInsertion};
 ghost use Rattle.edit.specs.code.Insertion.{insertionVerdict, insertionList};
+ghost use Rattle.hull.specs.Call.{IsHullAnswer};
+ghost use Rattle.hull.specs.code.Call.{hullAnswer, hullList, hullMarks};
 ghost use Rattle.nearest.specs.Call.{IsNearestAnswer};
 ghost use Rattle.nearest.specs.code.Call.{nearestAnswer};
 ghost use Rattle.hausdorff.specs.code.Call.{checkPair, comparison};
@@ -89,6 +96,36 @@ pub fn insert_corner(s: &[i32], k: usize, v: Corner, out: &mut [i32]) -> Verdict
     }
     insertion::write_with(s, k, v, out);
     Verdict::Taken
+}
+
+// The convex hull of the points that the list `s` gives: x and y of point 0, then of point 1, and so on, in any order, with
+// repeats, and points along straight edges. Writes the corners of the outline of the smallest convex piece that holds them
+// all to `out`, which is as long as `s`, from the lowest corner, of several the leftmost, counterclockwise, and zeros after
+// the last. Writes a mark for every point to `marks`: -1 if it repeats an earlier point, else its corner number, else -2.
+// Gives the corner count.
+// Refusals, in this order: 1, 3, 4, whose place is the number of the first such point, 9 if either list has another length,
+// and 2 if there are no points or all lie in one line. A refused call leaves both lists as they were.
+pub fn convex_hull(s: &[i32], out: &mut [i32], marks: &mut [i32]) -> HullAnswer
+    ensures answer { λ r. ⌜ r ≡ hullAnswer (now (s .entry)) (now (out .entry)) (now (marks .entry)) ⌝ }
+    ensures list { λ _. ⌜ now (out .exit) ≡ hullList (now (s .entry)) (now (out .entry)) (now (marks .entry)) ⌝ }
+    ensures marked { λ _. ⌜ now (marks .exit) ≡ hullMarks (now (s .entry)) (now (out .entry)) (now (marks .entry)) ⌝ }
+    ensures rules { λ r. ⌜ IsHullAnswer (now (s .entry)) (now (out .entry)) (now (marks .entry)) r (now (out .exit)) (now (marks .exit)) ⌝ }
+{
+    if let Verdict::Refused(refusal) = wrapping::checks::check_points(s, out.len(), marks.len()) {
+        return HullAnswer::Refused(refusal);
+    }
+    let mut hull = no_numbers();
+    let count = wrapping::convex_hull(s, &mut hull);
+    if count < FEWEST {
+        return HullAnswer::Refused(Refusal {
+            number: TOO_FEW,
+            side: RefusedSide::NoSide,
+            place: Place::Nowhere,
+        });
+    }
+    fill(&hull[..2 * count], out);
+    write_marks(s, &hull[..2 * count], marks);
+    HullAnswer::Counted(count)
 }
 
 // Finds the nearest point, to the point v, of the outline that the list `s` gives, in either orientation. The feature is

@@ -5,7 +5,8 @@ use crate::print_coordinate;
 use crate::print_refusal;
 use outline::Verdict;
 
-fn print_all(s: &[i32]) {
+// The numbers of a list.
+pub fn print_all(s: &[i32]) {
     for i in 0..s.len() {
         print_coordinate(s[i]);
     }

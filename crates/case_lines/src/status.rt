@@ -19,7 +19,8 @@ pub fn print_status(name: &[u8], status: Status) {
     print_natural(status.second as u64);
 }
 
-fn print_numbers(s: &[i64]) {
+// The numbers of a result list.
+pub fn print_numbers(s: &[i64]) {
     for i in 0..s.len() {
         print_signed(s[i]);
     }

@@ -1,6 +1,5 @@
 // Inserting a point as a corner.
 use crate::NO_SUCH_CORNER;
-use crate::WRONG_LENGTH;
 use outline::MOST;
 use outline::Place;
 use outline::RefusedSide;
@@ -9,6 +8,7 @@ use plane::Corner;
 use reading::checks;
 use reading::checks::POINT_OUT_OF_RANGE;
 use reading::checks::TOO_MANY;
+use reading::checks::WRONG_LENGTH;
 use reading::corners;
 use reading::refusals::refuse;
 ghost use mathlib.Core.Path.{_≡_};

@@ -2,7 +2,5 @@
 pub mod insertion;
 pub mod removal;
 
-// The numbers of the refusals that reading does not have.
+// The number of the refusal of a corner number.
 const NO_SUCH_CORNER: u32 = 8;
-
-const WRONG_LENGTH: u32 = 9;

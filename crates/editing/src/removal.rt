@@ -1,11 +1,11 @@
 // Removing a corner.
 use crate::NO_SUCH_CORNER;
-use crate::WRONG_LENGTH;
 use outline::Place;
 use outline::RefusedSide;
 use outline::Verdict;
 use reading::checks;
 use reading::checks::TOO_FEW;
+use reading::checks::WRONG_LENGTH;
 use reading::corners;
 use reading::refusals::refuse;
 ghost use mathlib.Core.Path.{_≡_};

@@ -1,4 +1,4 @@
--- Rules 9.4 to 9.6 and 9.10: the numbers that a result list holds after a call, place by place.
+-- Rules 9.4 to 9.6, 9.10 and 9.13: the numbers that a result list holds after a call, place by place.
 use Prim.Native.Nat.{ℕ}
 use mathlib.Core.List.{List, [], _∷_, _++_}
 use lib.IntN.{ℤ, pos, negsuc}
@@ -92,6 +92,6 @@ ofSide s r = ofWorst (reportedOf s r)
 abbrev pub ofReport : Report → List ℤ
 ofReport r = ofOverall r ++ ofSide A r ++ ofSide B r
 
--- rule 9.10, of a mismatch sum: the sum
-abbrev pub ofSum : ℕ → List ℤ
-ofSum m = pos m ∷ []
+-- rules 9.10 and 9.13, of a mismatch sum the sum, and of a convex hull the corner count
+abbrev pub ofNumber : ℕ → List ℤ
+ofNumber m = pos m ∷ []

@@ -11,13 +11,13 @@ ghost use mathlib.Core.Path.{_≡_};
 ghost use Prim.Native.Nat.{_^_, _<_};
 ghost use lib.IntN.{pos};
 ghost use Rattle.encoding.specs.Results.{kindOf, numberOf, ofNearest, sideCode, ofCorner, ofWorst, row, ofDone};
-ghost use Rattle.encoding.specs.Results.{ofSpent, ofOverall, reportedOf, ofSide, ofSum};
+ghost use Rattle.encoding.specs.Results.{ofSpent, ofOverall, reportedOf, ofSide, ofNumber};
 ghost use Rattle.hausdorff.specs.declared.Report.the-variants as Report;
 ghost use Rattle.hausdorff.specs.code.Sizes.{FitsI64, FeatureFits, NearestFits, CornerFits, WorstFits};
 ghost use Rattle.hausdorff.specs.code.Sizes.{DoneFits, SpentFits, ReportFits};
 
 // How many numbers there are of a nearest point, of a corner with its gap, of both outlines of a comparison together,
-// of a comparison, and of a mismatch sum.
+// of a comparison, of a mismatch sum, and of a convex hull.
 pub const NEAREST_LENGTH: usize = 7;
 
 const CORNER_LENGTH: usize = 9;
@@ -27,6 +27,8 @@ const OVERALL_LENGTH: usize = 14;
 pub const COMPARE_LENGTH: usize = 32;
 
 pub const MISMATCH_LENGTH: usize = 1;
+
+pub const CONVEX_HULL_LENGTH: usize = 1;
 
 // Where the numbers of A's corner begin, and of B's.
 pub const SIDE_A_PLACE: usize = 14;
@@ -263,10 +265,10 @@ pub fn of_side(side: Side, report: Report) -> [i64; CORNER_LENGTH]
     of_worst(reported_of(side, report))
 }
 
-// The numbers of a mismatch sum.
-pub fn of_sum(sum: u64) -> [i64; MISMATCH_LENGTH]
-    requires { ⌜ FitsI64 sum ⌝ }
-    ensures { λ r. ⌜ r ≡ ofSum sum ⌝ }
+// The one number of a mismatch sum, or of a corner count.
+pub fn of_number(n: u64) -> [i64; MISMATCH_LENGTH]
+    requires { ⌜ FitsI64 n ⌝ }
+    ensures { λ r. ⌜ r ≡ ofNumber n ⌝ }
 {
-    [signed(sum)]
+    [signed(n)]
 }

@@ -2,7 +2,7 @@
 --     begins-lowest    before step 1 the support corner of an outline is its lowest, then leftmost corner
 use Prim.Native.Nat.{ℕ, _<_}
 use mathlib.Core.Path.{_≡_, refl, sym, _∙_}
-use mathlib.Core.Logic.{_⊎_, inl, inr, _↔_, _≢_}
+use mathlib.Core.Logic.{inl, inr, _↔_, _≢_}
 use mathlib.Core.Bool.{false}
 use mathlib.Core.List.{List, [], _∷_, List·Memᴰ, List·Memᴰ·head, List·Memᴰ·not-nil, List·Memᴰ·cases-cons, Pairwise}
 use mathlib.Core.List.{rel-of-pairwise-cons}
@@ -10,13 +10,11 @@ use native.Mathlib.Omega.{arith}
 use lib.IntN.{pos}
 use lib.ListN.{length}
 use lib.Signed.{_≤ℤ_, _<ℤ_}
-use Rattle.integers.proofs.Order.{≤ℤ-or-<ℤ, <ℤ-≤ℤ, ≤ℤ-antisym}
-use Rattle.integers.proofs.Polynomial.{⊝_}
-use Rattle.integers.proofs.Certificate.{_≺_, _≼_, _≗_, hyp, eqn, _⊞_, _⊠_, prove}
+use Rattle.integers.proofs.Order.{<ℤ-≤ℤ}
 use Rattle.plane.specs.declared.Corner.{Corner}
 use Rattle.plane.specs.declared.Vector.{Vector}
-use Rattle.plane.specs.Vector.{_⇀_, cross, side, coordinates}
-use Rattle.plane.proofs.Algebra.{O, vec, crossE, _⇀E_, sideE, components, cross-back}
+use Rattle.plane.specs.Vector.{cross}
+use Rattle.plane.proofs.Algebra.{cross-back}
 use Rattle.outline.specs.code.Polygon.{Polygon}
 use Rattle.outline.specs.Corners.{next, previous, edge}
 use Rattle.outline.proofs.CornersLaws.{next-below, next-other, previous-below, next-previous}
@@ -30,45 +28,20 @@ use Rattle.hausdorff.specs.code.Own.{own}
 use Rattle.hausdorff.specs.Support.{passAll, supportAfter}
 use Rattle.hausdorff.specs.code.Lowest.{LowestLeftmost}
 use Rattle.plane.proofs.Halves.{Half, half, first-up}
+use Rattle.plane.proofs.Height.{level-falls, lowest-between}
 use Rattle.plane.proofs.DirectionLaws.{Before, across}
 use Rattle.hausdorff.proofs.OrderLaws.{first-own, polygons-go-round, own-members, own-rising}
 
 -- a turn left to a direction that comes before leads from the second half to the first: e falls and f does not
 falls : (e f : Vector) → pos 0 <ℤ cross e f → Before f e → (e .y <ℤ pos 0) × (pos 0 ≤ℤ f .y)
-unfolding cross
 falls e f turn before =
     let (first, second) = across f e before (cross-back e f .0 (<ℤ-≤ℤ turn)) in
     let up = first-up f (rw first at (half f)) in
     (falling up (rw second at (half e)), up)
   where
-    -- if e were level, f would be right of it
     falling : pos 0 ≤ℤ f .y → Half false e → e .y <ℤ pos 0
     falling up (inl down) = down
-    falling up (inr (level, left)) =
-        let e' = vec 0 in let f' = vec 2 in
-        prove (components (e ∷ f ∷ [])) (O ≺ crossE e' f' ∷ O ≼ f' .y ∷ e' .y ≗ O ∷ e' .x ≼ O ∷ []) (e' .y ≺ O)
-        (hyp 1 ⊞ hyp 2 ⊠ hyp 4 ⊞ eqn 3 (⊝ f' .x)) tt turn up level left
-
--- an edge falls from p to c and the next, from c to r, does not: a point right of neither is above c, or level with
--- it and not left of it
-lowest-between : (p c r v : Corner) → pos 0 <ℤ cross (p ⇀ c) (c ⇀ r) → (p ⇀ c) .y <ℤ pos 0 → pos 0 ≤ℤ (c ⇀ r) .y
-    → pos 0 ≤ℤ side p c v → pos 0 ≤ℤ side c r v → (c .y <ℤ v .y) ⊎ ((c .y ≡ v .y) × (c .x ≤ℤ v .x))
-unfolding cross _⇀_
-lowest-between p c r v turn down up left-p left-r =
-    let p' = vec 0 in let c' = vec 2 in let r' = vec 4 in let v' = vec 6 in let e = p' ⇀E c' in
-    let not-below : c .y ≤ℤ v .y = prove (coordinates (p ∷ c ∷ r ∷ v ∷ []))
-    (O ≺ crossE e (c' ⇀E r') ∷ e .y ≺ O ∷ O ≼ (c' ⇀E r') .y ∷ O ≼ sideE p' c' v' ∷ O ≼ sideE c' r' v' ∷ []) (c' .y ≼ v' .y)
-    (hyp 0 ⊠ hyp 1 ⊞ hyp 2 ⊠ hyp 5 ⊞ hyp 3 ⊠ hyp 4) tt turn down up left-p left-r in
-    elim (≤ℤ-or-<ℤ (v .y) (c .y)) [
-      | inl not-above ↦
-          let level = ≤ℤ-antisym not-below not-above in
-          inr (
-            level,
-            prove (coordinates (p ∷ c ∷ r ∷ v ∷ [])) (e .y ≺ O ∷ O ≼ sideE p' c' v' ∷ c' .y ≗ v' .y ∷ []) (c' .x ≼ v' .x)
-                (hyp 0 ⊠ hyp 1 ⊞ hyp 2 ⊞ eqn 3 (⊝ e .x)) tt down left-p level,
-          )
-      | inr above ↦ inl above
-    ]
+    falling up (inr (level, left)) = level-falls e f turn up level left
 
 -- so it is at the corner between an edge and a next one that comes before it
 first-lowest : {cs : List Corner} → Polygon cs → (i : ℕ) → i < length cs → Before (edge cs (next (length cs) i)) (edge cs i)

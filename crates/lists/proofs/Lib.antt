@@ -3,3 +3,4 @@ pub mod FoldLaws
 pub mod FirstLaws
 pub mod SortLaws
 pub mod CopyLaws
+pub mod FirstByLaws

@@ -4,6 +4,7 @@
 --     check-taken          it is taken exactly where no condition applies
 --     none-accepted, accepted    that is: its length is even and the outline of its corners is accepted
 --     convex-decides       6 alone
+--     range-decides        4 alone
 --     range-taken, convex-taken    the check 4 takes exactly where all corners are in range, and 6 where they are
 --                          strictly convex
 --     not-left-none        6 does not apply exactly where they are
@@ -65,7 +66,7 @@ module _ (cs : List Corner) where
   outOfRange-true : (i : ℕ) → (isOutOfRange cs i ≡ true) ↔ (¬ InRange (corner cs i))
   outOfRange-true i = test-not (inRange (corner cs i)) (inRange-true (corner cs i))
 
-  range-decides : (whose : RefusedSide) → Decides (checkRange whose cs) (outOfRange whose cs)
+  pub range-decides : (whose : RefusedSide) → Decides (checkRange whose cs) (outOfRange whose cs)
   unfolding checkRange
   range-decides whose = lowest-decides _ whose _ outOfRange-true n
 

@@ -4,6 +4,7 @@ pub mod Cone
 pub mod Arithmetic
 pub mod Range
 pub mod Tests
+pub mod Height
 pub mod Points
 pub mod Foot
 pub mod Halves

@@ -3,4 +3,5 @@ pub mod Vector
 pub mod Range
 pub mod Point
 pub mod Direction
+pub mod Height
 pub mod code

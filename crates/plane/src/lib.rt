@@ -1,7 +1,7 @@
 // Points and vectors of the plane with whole coordinates, points with fractions, and the side number with its signs.
 ghost use mathlib.Core.Path.{_≡_};
 ghost use Rattle.plane.specs.Vector.{_⇀_, cross, dot};
-ghost use Rattle.plane.specs.code.Tests.{isLeft, isRight, same};
+ghost use Rattle.plane.specs.code.Tests.{isLeft, isRight, same, isLower};
 ghost use Rattle.plane.specs.code.Turn.{turnsLeft};
 ghost use Rattle.integers.specs.Equal.{eqZ};
 ghost use Rattle.plane.specs.Point.{whole};
@@ -137,4 +137,11 @@ pub fn same(p: Corner, q: Corner) -> bool
     ensures { λ r. ⌜ r ≡ same p q ⌝ }
 {
     equal(p.x, q.x) && equal(p.y, q.y)
+}
+
+// Whether p is lower than q or, at the same height, left of it.
+pub fn is_lower(p: Corner, q: Corner) -> bool
+    ensures { λ r. ⌜ r ≡ isLower p q ⌝ }
+{
+    if p.y == q.y { p.x < q.x } else { p.y < q.y }
 }

@@ -1,10 +1,11 @@
 -- What the calls return and leave in a result list, by its length and by what the wrapped call answers.
 --     length-wrong, length-right    the result list has the wrong length, or the right one
+--     lists-kept, lists-written     the lists for corners and marks, of the convex hull
 --     answered-alike                comparing chains is answered as comparing the lists of their corners
 -- Where the code is not that of an answer, no list was written:
---     NotAnswered, compare-kept, records-kept, nearest-kept, mismatch-kept, removal-kept, insertion-kept
+--     NotAnswered, compare-kept, records-kept, nearest-kept, mismatch-kept, removal-kept, insertion-kept, hull-kept
 -- The code of a refusal is neither that of an answer nor that of a wrong length:
---     CodeApart, compare-code, records-code, nearest-code, removal-code, insertion-code, mismatch-code
+--     CodeApart, compare-code, records-code, nearest-code, removal-code, insertion-code, mismatch-code, hull-code
 -- So the functions that edit answer exactly where the calls take, and undo each other:
 --     removal-answered, insertion-answered, answered-insert, answered-remove
 use Prim.Native.Nat.{ℕ, _<_}
@@ -31,6 +32,10 @@ use Rattle.edit.specs.Insertion.{insertionConditions}
 use Rattle.edit.specs.code.Insertion.{insertionVerdict, insertionList}
 use Rattle.edit.proofs.Insertion.{insertion-refused}
 use Rattle.edit.proofs.RoundTrip.{remove-insert, insert-remove}
+use Rattle.hull.specs.declared.HullAnswer.the-variants as HullAnswer
+use Rattle.hull.specs.Call.{hullConditions}
+use Rattle.hull.specs.code.Call.{checkHull, answerFor, hullAnswer, hullList, hullMarks}
+use Rattle.hull.proofs.CallLaws.{hull-refuses}
 use Rattle.nearest.specs.declared.NearestAnswer.{NearestAnswer}
 use Rattle.nearest.specs.declared.NearestAnswer.the-variants as NearestAnswer
 use Rattle.nearest.specs.Call.{nearestConditions}
@@ -57,6 +62,8 @@ use Rattle.ravinebowl.specs.Calls.{compareRecordsStatus, compareRecordsL
 use Rattle.ravinebowl.specs.Calls.{nearestLength, statusOfNearest, listOfNearest, nearestStatus, nearestList}
 use Rattle.ravinebowl.specs.Calls.{mismatchLength, statusOfMismatch, listOfMismatch, mismatchStatus, mismatchList}
 use Rattle.ravinebowl.specs.Calls.{statusOfVerdict, removalStatus, insertionStatus}
+use Rattle.ravinebowl.specs.Calls.{convexHullLength, statusOfHull, resultOfHull, convexHullStatus, convexHullList}
+use Rattle.ravinebowl.specs.Calls.{convexHullMarks, convexHullResult}
 
 abbrev pub NotAnswered : Status → Type 0
 NotAnswered status = status .code ≢ answered .code
@@ -80,6 +87,18 @@ module _ {X : Type 0} (long : ℕ) (statusOf : X → Status) (listOf : X → Lis
           → cond right (listOf answer result) result ≡ result
       go true not = by-answer answer not
       go false not = refl
+
+-- the lists for the corners of a hull and for the marks, by the length of the result list
+module _ (s out marks result : List ℤ) where
+  pub lists-kept : length result ≢ convexHullLength
+      → (convexHullList s out marks result ≡ out) × (convexHullMarks s out marks result ≡ marks)
+  unfolding convexHullList convexHullMarks
+  lists-kept other = let test = ne-eqb (length result) convexHullLength other in (rw test, rw test)
+
+  pub lists-written : length result ≡ convexHullLength
+      → (convexHullList s out marks result ≡ hullList s out marks) × (convexHullMarks s out marks result ≡ hullMarks s out marks)
+  unfolding convexHullList convexHullMarks
+  lists-written same = let test = eq-eqb (length result) convexHullLength same in (rw test, rw test)
 
 -- two chains and two lists that are compared alike are answered alike
 pub answered-alike : (p q s : List ℤ) (a b : ℤ) (allowance : ℕ) (result : List ℤ)
@@ -138,6 +157,21 @@ pub insertion-kept : (s : List ℤ) (k : ℕ) (v : Corner) (out : List ℤ) → 
     → insertionList s k v out ≡ out
 insertion-kept s k v out = verdict-kept (insertionVerdict s k v out) _ out
 
+-- of the convex hull none of the three
+pub hull-kept : (s out marks result : List ℤ) → NotAnswered (convexHullStatus s out marks result)
+    → (convexHullList s out marks result ≡ out) × ((convexHullMarks s out marks result ≡ marks)
+    × (convexHullResult s out marks result ≡ result))
+unfolding convexHullStatus convexHullList convexHullMarks convexHullResult
+hull-kept s out marks result not = go (eqb (length result) convexHullLength) (checkHull s (length out) (length marks)) refl not
+  where
+    go : (right : Bool) (v : Verdict) → checkHull s (length out) (length marks) ≡ v
+        → NotAnswered (cond right (statusOfHull (answerFor s (checkHull s (length out) (length marks)))) wrongResultLength)
+        → (cond right (hullList s out marks) out ≡ out) × ((cond right (hullMarks s out marks) marks ≡ marks)
+        × (cond right (resultOfHull (hullAnswer s out marks) result) result ≡ result))
+    go false v is not = (refl, (refl, refl))
+    go true Verdict.Taken is not = absurd (not (rw is))
+    go true (Verdict.Refused r) is not = (rw is, (rw is, rw is))
+
 -- a refusal's code is neither that of an answer nor that of a wrong length
 abbrev pub CodeApart : Refusal → Type 0
 CodeApart r = (answered .code < refusedStatus r .code) × (refusedStatus r .code < wrongResultLength .code)
@@ -165,6 +199,10 @@ insertion-code s k v out r is =
 
 pub mismatch-code : (s t : List ℤ) (r : Refusal) → mismatchAnswer s t ≡ MismatchAnswer.Refused r → CodeApart r
 mismatch-code s t r is = refused-code (pairConditions s t) r refl (mismatch-refuses s t r .0 is)
+
+pub hull-code : (s out marks : List ℤ) (r : Refusal) → hullAnswer s out marks ≡ HullAnswer.Refused r → CodeApart r
+hull-code s out marks r is =
+    refused-code (hullConditions s (length out) (length marks)) r refl (hull-refuses s out marks r .0 is)
 
 -- a call that edits answers exactly where its verdict is Taken
 verdict-answered : (v : Verdict) → ((r : Refusal) → v ≡ Verdict.Refused r → CodeApart r)

@@ -1,4 +1,4 @@
--- Rules 9.1 to 9.8 and 9.10 to 9.12: what each call returns, and what it leaves in the list that it may write.
+-- Rules 9.1 to 9.8 and 9.10 to 9.13: what each call returns, and what it leaves in the lists that it may write.
 use Prim.Native.Nat.{ℕ}
 use mathlib.Core.Bool.{cond}
 use mathlib.Core.List.{List}
@@ -20,9 +20,12 @@ use Rattle.mismatch.specs.declared.MismatchAnswer.{MismatchAnswer}
 use Rattle.mismatch.specs.declared.MismatchAnswer.the-variants as MismatchAnswer
 use Rattle.mismatch.specs.code.Call.{mismatchAnswer}
 use Rattle.records.specs.code.Call.{recordsComparison}
+use Rattle.hull.specs.declared.HullAnswer.{HullAnswer}
+use Rattle.hull.specs.declared.HullAnswer.the-variants as HullAnswer
+use Rattle.hull.specs.code.Call.{hullAnswer, hullList, hullMarks}
 use Rattle.encoding.specs.declared.status.Status.{Status}
 use Rattle.encoding.specs.Status.{answered, wrongResultLength, refusedStatus}
-use Rattle.encoding.specs.Results.{ofNearest, ofReport, ofSum}
+use Rattle.encoding.specs.Results.{ofNearest, ofReport, ofNumber}
 
 -- how long the result list of the nearest point must be (rule 9.4)
 abbrev pub nearestLength : ℕ
@@ -35,6 +38,10 @@ compareLength = 32
 -- how long the result list of the mismatch sum must be (rule 9.10)
 abbrev pub mismatchLength : ℕ
 mismatchLength = 1
+
+-- how long the result list of the convex hull must be (rule 9.13)
+abbrev pub convexHullLength : ℕ
+convexHullLength = 1
 
 -- the status of a call whose result list must have a length, which is judged before anything else, by what it answers
 abbrev pub statusFor : {X : Type 0} → ℕ → (X → Status) → X → List ℤ → Status
@@ -98,7 +105,7 @@ statusOfMismatch (MismatchAnswer.Summed m) = answered
 -- the result list after that, given what it held before
 abbrev pub listOfMismatch : MismatchAnswer → List ℤ → List ℤ
 listOfMismatch (MismatchAnswer.Refused r) before = before
-listOfMismatch (MismatchAnswer.Summed m) before = ofSum m
+listOfMismatch (MismatchAnswer.Summed m) before = ofNumber m
 
 -- the status that `ravinebowl_mismatch` returns
 unfoldable pub mismatchStatus : List ℤ → List ℤ → List ℤ → Status
@@ -120,3 +127,31 @@ removalStatus s k out = statusOfVerdict (removalVerdict s k out)
 -- the status that `ravinebowl_insert_corner` returns; its list is `insertionList` of `edit/specs/code/Insertion.antt`
 abbrev pub insertionStatus : List ℤ → ℕ → Corner → List ℤ → Status
 insertionStatus s k v out = statusOfVerdict (insertionVerdict s k v out)
+
+-- the status, by what the call for the convex hull answers
+abbrev pub statusOfHull : HullAnswer → Status
+statusOfHull (HullAnswer.Refused r) = refusedStatus r
+statusOfHull (HullAnswer.Counted n) = answered
+
+-- the result list after that, given what it held before
+abbrev pub resultOfHull : HullAnswer → List ℤ → List ℤ
+resultOfHull (HullAnswer.Refused r) before = before
+resultOfHull (HullAnswer.Counted n) before = ofNumber n
+
+-- the status that `ravinebowl_convex_hull` returns
+unfoldable pub convexHullStatus : List ℤ → List ℤ → List ℤ → List ℤ → Status
+convexHullStatus s out marks result = statusFor convexHullLength statusOfHull (hullAnswer s out marks) result
+
+-- what it leaves in the result list
+unfoldable pub convexHullResult : List ℤ → List ℤ → List ℤ → List ℤ → List ℤ
+convexHullResult s out marks result = listFor convexHullLength resultOfHull (hullAnswer s out marks) result
+
+-- what it leaves in the list for the corners. The call's answer and both its lists are what `IsHullAnswer` says
+-- (`is-hull-answer` and `hullAnswer-unique` in `hull/proofs/CallLaws.antt`); where it does not answer, all three lists are
+-- as they were (`hull-kept`)
+unfoldable pub convexHullList : List ℤ → List ℤ → List ℤ → List ℤ → List ℤ
+convexHullList s out marks result = cond (eqb (length result) convexHullLength) (hullList s out marks) out
+
+-- what it leaves in the list for the marks
+unfoldable pub convexHullMarks : List ℤ → List ℤ → List ℤ → List ℤ → List ℤ
+convexHullMarks s out marks result = cond (eqb (length result) convexHullLength) (hullMarks s out marks) marks

@@ -2,6 +2,7 @@
 // refusal is a status, and a refused call writes to no list. `embed/ravinebowl.h` declares them for C.
 use encoding::results;
 use encoding::results::COMPARE_LENGTH;
+use encoding::results::CONVEX_HULL_LENGTH;
 use encoding::results::MISMATCH_LENGTH;
 use encoding::results::NEAREST_LENGTH;
 use encoding::results::SIDE_A_PLACE;
@@ -10,6 +11,7 @@ use encoding::status;
 use encoding::status::Status;
 use hausdorff::Comparison;
 use hausdorff::Report;
+use hull::HullAnswer;
 use mismatch::MismatchAnswer;
 use nearest::NearestAnswer;
 use outline::Side;
@@ -27,6 +29,7 @@ ghost use Rattle.ravinebowl.specs.Calls.{compareLength, compareStatus, c
 ghost use Rattle.ravinebowl.specs.Calls.{compareRecordsStatus, compareRecordsList};
 ghost use Rattle.ravinebowl.specs.Calls.{nearestStatus, nearestList, mismatchStatus, mismatchList};
 ghost use Rattle.ravinebowl.specs.Calls.{removalStatus, insertionStatus};
+ghost use Rattle.ravinebowl.specs.Calls.{convexHullStatus, convexHullList, convexHullMarks, convexHullResult};
 ghost use Rattle.edit.specs.code.Removal.{listAfter};
 ghost use Rattle.edit.specs.code.Insertion.{insertionList};
 
@@ -165,6 +168,35 @@ pub extern "C" fn ravinebowl_insert_corner(
     }
 }
 
+// The convex hull of the points that the list `points` gives: writes its corners to `out`, from the lowest, of several the
+// leftmost, counterclockwise, with zeros after them; a mark for every point to `marks`, -1 if it repeats an earlier point,
+// else its corner number, else -2; and the corner count, one number, to `result`.
+// A `result` of another length is judged first; then refusals 1, 3, 4, 9 and 2; 9 is for an `out` or a `marks` of the wrong
+// length.
+#[no_mangle]
+pub extern "C" fn ravinebowl_convex_hull(
+    points: &[i32],
+    out: &mut [i32],
+    marks: &mut [i32],
+    result: &mut [i64],
+) -> Status
+    ensures status { λ r. ⌜ r ≡ convexHullStatus (now (points .entry)) (now (out .entry)) (now (marks .entry)) (now (result .entry)) ⌝ }
+    ensures list { λ _. ⌜ now (out .exit) ≡ convexHullList (now (points .entry)) (now (out .entry)) (now (marks .entry)) (now (result .entry)) ⌝ }
+    ensures marked { λ _. ⌜ now (marks .exit) ≡ convexHullMarks (now (points .entry)) (now (out .entry)) (now (marks .entry)) (now (result .entry)) ⌝ }
+    ensures counted { λ _. ⌜ now (result .exit) ≡ convexHullResult (now (points .entry)) (now (out .entry)) (now (marks .entry)) (now (result .entry)) ⌝ }
+{
+    if result.len() != CONVEX_HULL_LENGTH {
+        return status::wrong_result_length();
+    }
+    match calls::convex_hull(points, out, marks) {
+        HullAnswer::Refused(refusal) => status::refused(refusal),
+        HullAnswer::Counted(count) => {
+            write(&results::of_number(count as u64), result, 0);
+            status::answered()
+        }
+    }
+}
+
 // The mismatch sum of the outlines that the lists `a` and `b` give: the squared distance of every corner of each to the
 // other piece, 0 in it, is brought down to a whole number of 1/1024 square millimetres, and these are added. Writes this
 // one number to `result`. A `result` of another length is judged first; then refusals 1 to 6 for A, then for B.
@@ -179,7 +211,7 @@ pub extern "C" fn ravinebowl_mismatch(a: &[i32], b: &[i32], result: &mut [i64]) 
     match calls::mismatch(a, b) {
         MismatchAnswer::Refused(refusal) => status::refused(refusal),
         MismatchAnswer::Summed(sum) => {
-            write(&results::of_sum(sum), result, 0);
+            write(&results::of_number(sum), result, 0);
             status::answered()
         }
     }

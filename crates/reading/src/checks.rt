@@ -31,8 +31,8 @@ ghost use Rattle.outline.specs.code.Turns.{isConvex};
 ghost use Rattle.outline.specs.code.Reading.{isOutOfRange, isRepeated};
 ghost use Rattle.outline.specs.code.Reading.{lengthChecks, checkRange, checkRepeated, checkEdge, checkConvex, check};
 
-// The numbers of the refusals of a list, and of a point.
-const ODD_LENGTH: u32 = 1;
+// The numbers of the refusals of a list, of a point, and of a list to write.
+pub const ODD_LENGTH: u32 = 1;
 
 pub const TOO_FEW: u32 = 2;
 
@@ -45,6 +45,8 @@ const REPEATED: u32 = 5;
 const NOT_LEFT: u32 = 6;
 
 pub const POINT_OUT_OF_RANGE: u32 = 7;
+
+pub const WRONG_LENGTH: u32 = 9;
 
 // 1, 2 and 3: the length of the list.
 fn check_length(s: &[i32], whose: RefusedSide) -> Verdict
@@ -72,7 +74,7 @@ fn is_out_of_range(s: &[i32], i: usize) -> bool
 }
 
 // 4: the first corner that is out of range.
-fn check_range(s: &[i32], whose: RefusedSide) -> Verdict
+pub fn check_range(s: &[i32], whose: RefusedSide) -> Verdict
     ensures { λ r. ⌜ r ≡ checkRange whose (corners (now (s .entry))) ⌝ }
 {
     let n = count(s);

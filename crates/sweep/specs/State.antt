@@ -7,8 +7,6 @@ use lib.Dec.{eqb}
 use lib.IntN.{ℤ, pos}
 use lib.ListN.{length, drop}
 use lib.Signed.{ltZ}
-use Rattle.integers.specs.Equal.{eqZ}
-use Rattle.plane.specs.declared.Corner.{Corner}
 use Rattle.plane.specs.Vector.{_⇀_, cross}
 use Rattle.outline.specs.Corners.{next}
 use Rattle.outline.specs.declared.Orientation.{Orientation}
@@ -115,10 +113,6 @@ withWorst o q a b local-a local-b state = record {
     worst = keep (λ (i : ℕ). i) (state .b .worst) (localGiven B (givenNumber q b) (b .corner) o a local-b);
   };
 }
-
--- a corner is lower than another or, at the same height, left of it. A side begins at the lowest of its corners
-abbrev pub isLower : Corner → Corner → Bool
-isLower p q = cond (eqZ (p .y) (q .y)) (ltZ (p .x) (q .x)) (ltZ (p .y) (q .y))
 
 -- one side's part before step 1: its lowest corner, all edges still to come, and no worst so far
 abbrev pub beginning : ℕ → ℕ → SideState

@@ -15,7 +15,7 @@ ghost use Rattle.outline.specs.Corners.{corners};
 ghost use Rattle.outline.specs.Orientation.{asHeld};
 ghost use Rattle.hausdorff.specs.Pair.{bothOrientations};
 ghost use Rattle.hausdorff.specs.code.Lowest.{LowestLeftmost};
-ghost use Rattle.sweep.specs.State.{IsAfter, CanStep, isLower, beginning};
+ghost use Rattle.sweep.specs.State.{IsAfter, CanStep, beginning};
 ghost use Rattle.sweep.specs.State.{Measurable, BoundedState, Passable, bIsNext, advanced, passed};
 ghost use Rattle.sweep.specs.State.{changesWorst, withWorst};
 
@@ -160,13 +160,6 @@ impl State {
     }
 }
 
-// Whether p is lower than q or, at the same height, left of it.
-fn is_lower(p: Corner, q: Corner) -> bool
-    ensures { λ r. ⌜ r ≡ isLower p q ⌝ }
-{
-    if p.y == q.y { p.x < q.x } else { p.y < q.y }
-}
-
 // The number, as held, of the lowest corner of a list, of several the leftmost: there the outline's first edge in the
 // angular order starts.
 pub fn lowest(s: &[i32], orientation: Orientation) -> usize
@@ -177,7 +170,7 @@ pub fn lowest(s: &[i32], orientation: Orientation) -> usize
     let mut found = 0;
     let mut i = 1;
     while i < n {
-        if is_lower(
+        if plane::is_lower(
             held_corner(s, orientation, i),
             held_corner(s, orientation, found),
         ) {

@@ -16,6 +16,10 @@ use Rattle.edit.specs.Removal.{without}
 use Rattle.edit.specs.code.Removal.{checkRemoval}
 use Rattle.edit.specs.Insertion.{inserted}
 use Rattle.edit.specs.code.Insertion.{checkInsertion}
+use Rattle.lists.specs.code.Lists.{firstBy}
+use Rattle.hull.specs.code.Wrapping.{isCandidate, kept, isAhead, wrap, convexHull}
+use Rattle.hull.specs.code.Marks.{isAmong, numberFrom, marks}
+use Rattle.hull.specs.code.Call.{checkHull}
 use Rattle.plane.specs.Direction.{isFirstHalf, isBefore, sameDirection}
 use Rattle.plane.specs.Point.{_⇢_}
 use Rattle.integers.specs.code.Root.{rootBy}
@@ -32,6 +36,7 @@ use Rattle.records.specs.code.Call.{checkRecords}
 use Rattle.worked.specs.Cases.{All, cases, S, T, halved, star, straight, clockwise, straightBack, twice, wedge, moved}
 use Rattle.worked.specs.Cases.{turned, low, high, S3, T3, upward, downward, square, squareBack, squareMoved, flat}
 use Rattle.worked.specs.Cases.{tall, kite, kiteBack, thin, wide, needle, long, longBent, short, shortBent, store}
+use Rattle.worked.specs.Cases.{cloud, cloudBack, straightHull, starHull, inLine}
 
 pub claim : All cases
 unfolding inRange _⇀_ cross dot same fold corners next checkRange checkRepeated checkEdge checkConvex check checkPair
@@ -40,6 +45,7 @@ unfolding inRange _⇀_ cross dot same fold corners next checkRange checkRepeate
     orientationOf givenCorner checkEitherConvex checkEither isConvex wholeUnits
     S T halved star straight clockwise straightBack twice wedge moved turned low high S3 T3 upward downward
     square squareBack squareMoved flat tall kite kiteBack thin wide needle long longBent short shortBent store
-    records walkFrom checkRecords
+    records walkFrom checkRecords firstBy isCandidate kept isAhead wrap convexHull isAmong numberFrom marks checkHull
+    cloud cloudBack straightHull starHull inLine
 claim =
-    (refl, (refl, (refl, (refl, (refl, (refl, (refl, (refl, (refl, (refl, (refl, (refl, ((refl, refl), ((refl, refl), ((refl, refl), ((refl, refl), ((refl, refl), ((refl, refl), ((refl, refl), ((refl, refl), ((refl, refl), ((refl, refl), ((refl, refl), ((refl, refl), ((refl, refl), ((refl, refl), ((refl, refl), ((refl, refl), ((refl, refl), ((refl, refl), (refl, (refl, (refl, (refl, (refl, (refl, (refl, (refl, (refl, (refl, (refl, (refl, (refl, (refl, (refl, (refl, (refl, (refl, (refl, (refl, (refl, (refl, (refl, (refl, (refl, (refl, (refl, (refl, (refl, (refl, (refl, (refl, (refl, (refl, (refl, (refl, (refl, (refl, (refl, (refl, (refl, (refl, (refl, (refl, (refl, (refl, (refl, (refl, (refl, (refl, (refl, (refl, (refl, (refl, (refl, (refl, ((refl, refl, refl), ((refl, refl, refl), ((refl, refl, refl), ((refl, refl, refl), ((refl, refl, refl), ((refl, refl, refl), ((refl, refl, refl), (refl, (refl, (refl, (refl, (refl, (refl, (refl, (refl, (refl, (refl, (refl, (refl, (refl, (refl, (refl, (refl, (refl, (refl, (refl, (refl, (refl, (refl, (refl, (refl, (refl, (refl, (refl, (refl, (refl, (refl, (refl, tt))))))))))))))))))))))))))))))))))))))))))))))))))))))))))))))))))))))))))))))))))))))))))))))))))))))))))))))))))))))))))))
+    (refl, (refl, (refl, (refl, (refl, (refl, (refl, (refl, (refl, (refl, (refl, (refl, ((refl, refl), ((refl, refl), ((refl, refl), ((refl, refl), ((refl, refl), ((refl, refl), ((refl, refl), ((refl, refl), ((refl, refl), ((refl, refl), ((refl, refl), ((refl, refl), ((refl, refl), ((refl, refl), ((refl, refl), ((refl, refl), ((refl, refl), ((refl, refl), ((refl, refl, refl), ((refl, refl, refl), ((refl, refl, refl), ((refl, refl, refl), ((refl, refl, refl), ((refl, refl, refl), ((refl, refl, refl), ((refl, refl, refl), ((refl, refl, refl), ((refl, refl, refl), ((refl, refl, refl), ((refl, refl, refl), ((refl, refl, refl), ((refl, refl, refl), (refl, (refl, (refl, (refl, (refl, (refl, (refl, (refl, (refl, (refl, (refl, (refl, (refl, (refl, (refl, (refl, (refl, (refl, (refl, (refl, (refl, (refl, (refl, (refl, (refl, (refl, (refl, (refl, (refl, (refl, (refl, (refl, (refl, (refl, (refl, (refl, (refl, (refl, (refl, (refl, (refl, (refl, (refl, (refl, (refl, (refl, (refl, (refl, (refl, (refl, (refl, (refl, (refl, (refl, (refl, (refl, ((refl, refl, refl), ((refl, refl, refl), ((refl, refl, refl), ((refl, refl, refl), ((refl, refl, refl), ((refl, refl, refl), ((refl, refl, refl), (refl, (refl, (refl, (refl, (refl, (refl, (refl, (refl, (refl, (refl, (refl, (refl, (refl, (refl, (refl, (refl, (refl, (refl, (refl, (refl, (refl, (refl, (refl, (refl, (refl, (refl, (refl, (refl, (refl, (refl, (refl, tt))))))))))))))))))))))))))))))))))))))))))))))))))))))))))))))))))))))))))))))))))))))))))))))))))))))))))))))))))))))))))))))))))))))))))

@@ -3,7 +3,7 @@ use Prim.Native.Nat.{ℕ}
 use mathlib.Core.Path.{_≡_}
 use mathlib.Core.List.{List, [], _∷_, _++_}
 use lib.IntN.{ℤ, pos, negsuc}
-use lib.ListN.{length}
+use lib.ListN.{length, replicate}
 use Rattle.plane.specs.declared.Corner.{Corner}
 use Rattle.outline.specs.declared.Orientation.{Orientation}
 use Rattle.outline.specs.declared.Orientation.the-variants.{Counterclockwise, Clockwise}
@@ -17,6 +17,9 @@ use Rattle.outline.specs.declared.RefusedSide.the-variants.{NoSide, Of}
 use Rattle.outline.specs.code.Either.{orientationOf, heldCorners, eitherReading}
 use Rattle.outline.specs.code.Reading.{reading}
 use Rattle.outline.specs.Corners.{corners, held}
+use Rattle.hull.specs.declared.HullAnswer.{HullAnswer}
+use Rattle.hull.specs.declared.HullAnswer.the-variants as HullAnswer
+use Rattle.hull.specs.code.Call.{hullAnswer, hullList, hullMarks}
 use Rattle.nearest.specs.declared.NearestAnswer.{NearestAnswer}
 use Rattle.nearest.specs.declared.NearestAnswer.the-variants as NearestAnswer
 use Rattle.nearest.specs.declared.Feature.{Feature}
@@ -54,6 +57,8 @@ pub data Case : Type 0 where
   removes : List ℤ → ℕ → List ℤ → Verdict → List ℤ → Case
   -- inserting a point as a corner of the list, with a list to write, ends so and leaves that list so
   inserts : List ℤ → ℕ → Corner → List ℤ → Verdict → List ℤ → Case
+  -- the convex hull of the points of the list, with lists to write for corners and marks, ends so and leaves them so
+  hulls : List ℤ → List ℤ → List ℤ → HullAnswer → List ℤ → List ℤ → Case
   -- the nearest point of the list's outline to a point is answered so
   nears : Corner → List ℤ → NearestAnswer → Case
   -- the exhaustive search for a point finds this, by the list as given
@@ -80,6 +85,8 @@ Holds (reads s ends as-held o) =
     eitherReading NoSide s ≡ record { verdict = ends; outline = held (corners as-held); orientation = o }
 Holds (removes s k out ends after) = (removalVerdict s k out ≡ ends) × (listAfter s k out ≡ after)
 Holds (inserts s k v out ends after) = (insertionVerdict s k v out ≡ ends) × (insertionList s k v out ≡ after)
+Holds (hulls s out ms ends after marked) =
+    (hullAnswer s out ms ≡ ends) × (hullList s out ms ≡ after) × (hullMarks s out ms ≡ marked)
 Holds (nears v s ends) = nearestAnswer v s ≡ ends
 Holds (searches v s found) =
     givenNearest (orientationOf (corners s)) (length (corners s)) (search (heldCorners s) v) ≡ found
@@ -132,6 +139,27 @@ twice = pos 0 ∷ pos 0 ∷ pos 4 ∷ pos 0 ∷ pos 0 ∷ pos 4 ∷ T
 -- the outline of the examples of the nearest point
 unfoldable pub wedge : List ℤ
 wedge = pos 0 ∷ pos 0 ∷ pos 9 ∷ pos 0 ∷ pos 0 ∷ pos 3 ∷ []
+
+-- points in no order, with a repeat, one on an edge and one inside: (4,4) (0,0) (2,0) (4,0) (0,4) (4,4) (1,2)
+unfoldable pub cloud : List ℤ
+cloud =
+    pos 4 ∷ pos 4 ∷ pos 0 ∷ pos 0 ∷ pos 2 ∷ pos 0 ∷ pos 4 ∷ pos 0 ∷ pos 0 ∷ pos 4 ∷ pos 4 ∷ pos 4 ∷ pos 1 ∷ pos 2 ∷ []
+
+-- the same in the opposite order
+unfoldable pub cloudBack : List ℤ
+cloudBack =
+    pos 1 ∷ pos 2 ∷ pos 4 ∷ pos 4 ∷ pos 0 ∷ pos 4 ∷ pos 4 ∷ pos 0 ∷ pos 2 ∷ pos 0 ∷ pos 0 ∷ pos 0 ∷ pos 4 ∷ pos 4 ∷ []
+
+-- the hulls of `straight` and of the star
+unfoldable pub straightHull : List ℤ
+straightHull = pos 0 ∷ pos 0 ∷ pos 4 ∷ pos 0 ∷ pos 0 ∷ pos 3 ∷ []
+
+unfoldable pub starHull : List ℤ
+starHull = negsuc 1 ∷ negsuc 2 ∷ pos 2 ∷ negsuc 2 ∷ pos 3 ∷ pos 1 ∷ pos 0 ∷ pos 3 ∷ negsuc 2 ∷ pos 1 ∷ []
+
+-- three points in one line: (0,0) (2,2) (1,1)
+unfoldable pub inLine : List ℤ
+inLine = pos 0 ∷ pos 0 ∷ pos 2 ∷ pos 2 ∷ pos 1 ∷ pos 1 ∷ []
 
 -- a store of nine records. S starts at record 2 and T at record 3; both end with record 5. Record 7 is followed by itself,
 -- and record 8 by one that is not there
@@ -191,6 +219,14 @@ within x y = record {
   gap = record { upper = 0; lower = 1 };
   point = record { x = x; y = y; lower = 1 };
 }
+
+-- a list of n numbers to write, whatever they are before
+abbrev pub sevens : ℕ → List ℤ
+sevens n = replicate n (pos 7)
+
+-- some numbers, and then n zeros
+abbrev pub zerosAfter : List ℤ → ℕ → List ℤ
+zerosAfter s n = s ++ replicate n (pos 0)
 
 -- a list of four numbers to write, whatever they are before
 abbrev pub four : List ℤ
@@ -472,6 +508,28 @@ cases =
     -- the outline comes first, and is read strictly
     ∷ inserts star 9 (point (pos 16001) (pos 0)) six (Refused (notLeft NoSide 0 3)) six
     ∷ inserts clockwise 1 (point (negsuc 0) (pos 2)) eight (Refused (notLeft NoSide 0 2)) eight
+    -- a convex hull, of the points in two orders
+    ∷ hulls cloud (sevens 14) (sevens 7) (HullAnswer.Counted 4) (zerosAfter S 6)
+    (pos 2 ∷ pos 0 ∷ negsuc 1 ∷ pos 1 ∷ pos 3 ∷ negsuc 0 ∷ negsuc 1 ∷ [])
+    ∷ hulls cloudBack (sevens 14) (sevens 7) (HullAnswer.Counted 4) (zerosAfter S 6)
+    (negsuc 1 ∷ pos 2 ∷ pos 3 ∷ pos 1 ∷ negsuc 1 ∷ pos 0 ∷ negsuc 0 ∷ [])
+    -- of S and of T walked clockwise, and of outlines that reading refuses
+    ∷ hulls S (sevens 8) (sevens 4) (HullAnswer.Counted 4) S (pos 0 ∷ pos 1 ∷ pos 2 ∷ pos 3 ∷ [])
+    ∷ hulls clockwise (sevens 6) (sevens 3) (HullAnswer.Counted 3) T (pos 0 ∷ pos 2 ∷ pos 1 ∷ [])
+    ∷ hulls straight (sevens 8) (sevens 4) (HullAnswer.Counted 3) (zerosAfter straightHull 2)
+    (pos 0 ∷ negsuc 1 ∷ pos 1 ∷ pos 2 ∷ [])
+    ∷ hulls star (sevens 10) (sevens 5) (HullAnswer.Counted 5) starHull (pos 3 ∷ pos 0 ∷ pos 2 ∷ pos 4 ∷ pos 1 ∷ [])
+    ∷ hulls twice (sevens 12) (sevens 6) (HullAnswer.Counted 3) (zerosAfter T 6)
+    (pos 0 ∷ pos 1 ∷ pos 2 ∷ negsuc 0 ∷ negsuc 0 ∷ negsuc 0 ∷ [])
+    -- points in one line, one point, no points
+    ∷ hulls inLine (sevens 6) (sevens 3) (HullAnswer.Refused (refusalWith 2 Nowhere)) (sevens 6) (sevens 3)
+    ∷ hulls (pos 3 ∷ pos 3 ∷ []) (sevens 2) (sevens 1) (HullAnswer.Refused (refusalWith 2 Nowhere)) (sevens 2) (sevens 1)
+    ∷ hulls [] [] [] (HullAnswer.Refused (refusalWith 2 Nowhere)) [] []
+    -- a list of another length comes before that, for the corners and for the marks; a point out of range before both
+    ∷ hulls [] (sevens 1) [] (HullAnswer.Refused (refusalWith 9 Nowhere)) (sevens 1) []
+    ∷ hulls inLine (sevens 6) (sevens 4) (HullAnswer.Refused (refusalWith 9 Nowhere)) (sevens 6) (sevens 4)
+    ∷ hulls (pos 0 ∷ pos 0 ∷ pos 1 ∷ pos 16001 ∷ []) [] [] (HullAnswer.Refused (refusalWith 4 (At 1))) [] []
+    ∷ hulls (pos 16001 ∷ []) [] [] (HullAnswer.Refused (refusalWith 1 Nowhere)) [] []
     ∷ nears (point (pos 6) (pos 6)) wedge (NearestAnswer.Found edgeOne)
     ∷ nears (point (pos 12) (pos 9)) wedge (NearestAnswer.Found (cornerOne 90))
     -- the foot on edge 0 is its end; on the border; at a corner

@@ -1,5 +1,5 @@
 -- Tests of points with whole coordinates.
-use mathlib.Core.Bool.{Bool, _&&_}
+use mathlib.Core.Bool.{Bool, cond, _&&_}
 use lib.IntN.{pos}
 use lib.Signed.{ltZ}
 use Rattle.integers.specs.Equal.{eqZ}
@@ -18,3 +18,7 @@ isRight from run v = ltZ (cross run (from ⇀ v)) (pos 0)
 -- two points are the same
 unfoldable pub same : Corner → Corner → Bool
 same p q = eqZ (p .x) (q .x) && eqZ (p .y) (q .y)
+
+-- p is lower than q or, at the same height, left of it
+abbrev pub isLower : Corner → Corner → Bool
+isLower p q = cond (eqZ (p .y) (q .y)) (ltZ (p .x) (q .x)) (ltZ (p .y) (q .y))

@@ -29,8 +29,8 @@ returns c =
     (mismatchAnswer (args .a .now) (args .b .now)) _ (c .before .if1 .taken) in
     (c .wrong-result-length .ensures ∙ sym status, sym list)
 
-of-sum-requires : tie.Need-of-sum-requires
-of-sum-requires c κs =
+of-number-requires : tie.Need-of-number-requires
+of-number-requires c κs =
     mismatch-fits _ _ _ (rw (c .before .sum .given .1) at (c .before .before .before .mismatch .ensures .1))
 
 returns-2 : tie.Need-returns-2
@@ -43,8 +43,8 @@ returns-3 c =
     let wrote = c .before .before in let made = wrote .before .before .before in let known = made .before .before in
     let (status, list) = right (known .before .before) (known .sum .given .1) in
     let before = known .before .before .before .before .args .result .now in
-    let whole = written-whole before (made .of-sum .result) (omega arith) (wrote .write .ensures) in
-    (c .answered .ensures ∙ sym status, whole ∙ made .of-sum .ensures ∙ sym list)
+    let whole = written-whole before (made .of-number .result) (omega arith) (wrote .write .ensures) in
+    (c .answered .ensures ∙ sym status, whole ∙ made .of-number .ensures ∙ sym list)
 
 pub ravinebowl-mismatch-spec : {M : Type 1} → statement M
 ravinebowl-mismatch-spec =
@@ -53,7 +53,7 @@ ravinebowl-mismatch-spec =
     (search needs)
     returns
     (search needs) (search needs) (search needs) (search needs)
-    of-sum-requires
+    of-number-requires
     (search needs) (search needs) (search needs)
     returns-2
     (search needs)

@@ -1,4 +1,4 @@
--- `sweep::is_lower` compares the heights by their bits, which tells whether they are equal.
+-- `plane::is_lower` compares the heights by their bits, which tells whether they are equal.
 use borrow.Author.Needs.{sfits-of}
 use borrow.Author.Tests.{eq-eqb, ne-eqb}
 use mathlib.Core.Path.{_≡_}
@@ -9,10 +9,10 @@ use mir.Facts.{toZ-ofZ}
 use mir.Syntax.{w32}
 use mir.Val.{SFits, ofZ}
 use Rattle.integers.proofs.Machine.{i32, equal-bits}
 use Rattle.plane.specs.declared.Corner.{Corner}
-use Rattle.sweep.specs.State.{isLower}
-use Rattle.sweep.proofs.is_lower.Statement.{statement}
-use Rattle.sweep.proofs.is_lower.Tie as tie
+use Rattle.plane.specs.code.Tests.{isLower}
+use Rattle.plane.proofs.is_lower.Statement.{statement}
+use Rattle.plane.proofs.is_lower.Tie as tie
 
 -- the code's tests, made of the fields as bits
 tests : (p q : Corner) → SFits w32 (p .x) → SFits w32 (p .y) → SFits w32 (q .x) → SFits w32 (q .y)
