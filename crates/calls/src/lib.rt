@@ -125,7 +125,7 @@ pub fn convex_hull(s: &[i32], out: &mut [i32], marks: &mut [i32]) -> HullAnswer
     }
     fill(&hull[..2 * count], out);
     write_marks(s, &hull[..2 * count], marks);
-    HullAnswer::Counted(count)
+    HullAnswer::Made(count)
 }
 
 // Finds the nearest point, to the point v, of the outline that the list `s` gives, in either orientation. The feature is

@@ -9,7 +9,7 @@
 --     hull-refuses        it answers with a refusal exactly where a condition applies
 --     hull-promises       so it has all parts of the call's contract
 -- Of what the call gives for other points:
---     among-line, order-line    points in one line stay so in any order
+--     among-line          points in one line stay so in any order
 --     order-hull          points in any order, and however often each comes, have the same hull
 --     order-answer        so whatever has the call's promises gives the same count and, for as many points, the same list
 --     count-at-most       a count is at most 256
@@ -47,7 +47,7 @@ use Rattle.outline.proofs.CornersLaws.{corners-coordinates, length-coordinates}
 use Rattle.outline.proofs.EdgeLaws.{accepted-polygon, corner-number}
 use Rattle.outline.proofs.LeftTurns.{convex-turns}
 use Rattle.hull.specs.declared.HullAnswer.{HullAnswer}
-use Rattle.hull.specs.declared.HullAnswer.the-variants.{Counted, Refused}
+use Rattle.hull.specs.declared.HullAnswer.the-variants.{Made, Refused}
 use Rattle.hull.specs.Call.{wrongLengths, InLine, noOutline, pointConditions, hullConditions, PermittedPoints, filledUp}
 use Rattle.hull.specs.Call.{IsHullAnswer, refused, made}
 use Rattle.hull.specs.Hull.{IsHull}
@@ -174,7 +174,7 @@ module _ (s out ms : List ℤ) where
       let takes = hull-taken s (length out) (length ms) .1 (may, apart) in
       let same : hs ≡ convexHull points = hull-unique hull (permitted-hull s (length out) (length ms) may apart) in
       let ms-are = marks-unique points hs (accepted-polygon (hull .accepted)) are in (
-        is ∙ ap (λ (gs : List Corner). Counted (length gs)) same ∙ sym (ap (answerFor s) takes),
+        is ∙ ap (λ (gs : List Corner). Made (length gs)) same ∙ sym (ap (answerFor s) takes),
         (
           written ∙ ap (λ (gs : List Corner). filledUp (length s) (coordinates gs)) same ∙ rw takes,
           ms-are ∙ ap (λ (gs : List Corner). marks points gs) same ∙ rw takes,
@@ -202,10 +202,10 @@ module _ (s out ms : List ℤ) where
 
   pub made-promises : {n : ℕ} {out-after marks-after : List ℤ} → verdict ≡ Verdict.Taken → n ≡ length (convexHull points)
       → out-after ≡ filledUp (length s) (coordinates (convexHull points)) → marks-after ≡ marks points (convexHull points)
-      → (Counted n ≡ hullAnswer s out ms) × ((out-after ≡ hullList s out ms) × ((marks-after ≡ hullMarks s out ms)
-      × IsHullAnswer s out ms (Counted n) out-after marks-after))
+      → (Made n ≡ hullAnswer s out ms) × ((out-after ≡ hullList s out ms) × ((marks-after ≡ hullMarks s out ms)
+      × IsHullAnswer s out ms (Made n) out-after marks-after))
   made-promises is counts written marked =
-      hull-promises (ap Counted counts ∙ sym (ap (answerFor s) is)) (written ∙ rw is) (marked ∙ rw is)
+      hull-promises (ap Made counts ∙ sym (ap (answerFor s) is)) (written ∙ rw is) (marked ∙ rw is)
 
 -- ---- by what the checks 1, 3, 4 and 9 give
 module _ (s : List ℤ) (room mark-room : ℕ) {v : Verdict} (found : v ≡ checkPoints s room mark-room) where
@@ -249,7 +249,7 @@ module _ {s t : List ℤ} {room mark-room room' mark-room' : ℕ} where
 
 -- of whatever has the call's promises
 pub order-answer : {s out ms t out' ms' : List ℤ} {n k : ℕ} {o m o' m' : List ℤ}
-    → IsHullAnswer s out ms (Counted n) o m → IsHullAnswer t out' ms' (Counted k) o' m'
+    → IsHullAnswer s out ms (Made n) o m → IsHullAnswer t out' ms' (Made k) o' m'
     → Among (corners s) (corners t) → Among (corners t) (corners s) → (n ≡ k) × (length s ≡ length t → o ≡ o')
 order-answer (refused _ _ is _ _) two there back = absurd (let z : _≡_ {A = ℕ} 0 1 = cc in omega arith)
 order-answer (made _ _ _ _ _ _ _) (refused _ _ is _ _) there back = absurd (let z : _≡_ {A = ℕ} 0 1 = cc in omega arith)
@@ -259,7 +259,7 @@ order-answer {t} {n} {k} (made may apart hs hull is written _) (made may' apart'
     (count ∙ ap length same ∙ sym count', λ long. written ∙ (rw (long, same)) ∙ sym written')
 
 -- a count is at most 256
-pub count-at-most : {s out ms : List ℤ} {n : ℕ} {o m : List ℤ} → IsHullAnswer s out ms (Counted n) o m → n ≤ most
+pub count-at-most : {s out ms : List ℤ} {n : ℕ} {o m : List ℤ} → IsHullAnswer s out ms (Made n) o m → n ≤ most
 count-at-most (refused _ _ is _ _) = absurd (let z : _≡_ {A = ℕ} 0 1 = cc in omega arith)
 count-at-most {n} (made _ _ hs hull is _ _) = let count : n ≡ length hs = cc in omega (arith, hull .accepted .at-most)
 
@@ -303,7 +303,7 @@ module _ {ps hs : List Corner} (hull : IsHull ps hs) where
           rw (corners-coordinates hs) (polygon-apart polygon),
         )
 
-    pub again-answer : (hullAnswer list out ms ≡ Counted (length hs)) × ((hullList list out ms ≡ list) × (hullMarks list out ms ≡ marks hs hs))
+    pub again-answer : (hullAnswer list out ms ≡ Made (length hs)) × ((hullList list out ms ≡ list) × (hullMarks list out ms ≡ marks hs hs))
     again-answer =
         rw (again-taken, corners-coordinates hs, again-hull)
         (refl, (filled-whole (length list) list refl, refl))

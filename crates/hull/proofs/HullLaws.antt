@@ -44,7 +44,7 @@ use Rattle.nearest.specs.Piece.{InPiece}
 use Rattle.nearest.proofs.PieceLaws.{whole-in-piece}
 use Rattle.nearest.proofs.Support.{not-right, support}
 use Rattle.hull.specs.Call.{InLine}
-use Rattle.hull.specs.Hull.{Holds, IsHull}
+use Rattle.hull.specs.Hull.{HoldsPoints, IsHull}
 use Rattle.hull.specs.code.Wrapping.{lowest, isCandidate, kept, convexHull}
 use Rattle.hull.proofs.Points.{corner-member, member-corner, kept-member, member-kept, kept-shorter}
 use Rattle.hull.proofs.Wrapping.{candidate-self, candidate-first, wrap-members, wrap-length, First, wrap-convex, wrap-covers}
@@ -272,7 +272,7 @@ module _ (o r : Corner) where
       )
 
 -- a piece is what is right of no edge, and that is a half plane for each edge; so it need not even be convex
-pub piece-inside : {cs : List Corner} → Polygon cs → (qs : List Corner) → Holds qs cs → (z : Point) → InPiece cs z → InPiece qs z
+pub piece-inside : {cs : List Corner} → Polygon cs → (qs : List Corner) → HoldsPoints qs cs → (z : Point) → InPiece cs z → InPiece qs z
 piece-inside polygon qs holds z inside = record {
   proper = inside .proper;
   right-of-none = λ i below.
@@ -294,7 +294,7 @@ module _ (ps : List Corner) (apart : ¬ InLine ps) where
   hull-point i below = member-corner (hull-members ps _ (corner-member (convexHull ps) i below))
 
   -- no corner is right of an edge, so no point is
-  pub hull-holds : Holds (convexHull ps) ps
+  pub hull-holds : HoldsPoints (convexHull ps) ps
   hull-holds i below =
       let hs = convexHull ps in
       whole-in-piece hs (corner ps i) .1 (λ e known. hull-covers (corner hs e) (corner hs (next (length hs) e)) ps
@@ -307,7 +307,7 @@ module _ (ps : List Corner) (apart : ¬ InLine ps) where
   hull-half-plane a b c points-in =
       half-plane hull-polygon a b c (λ i below. (let (j, j-below, is) = hull-point i below in rw is at (points-in j j-below)))
 
-  pub hull-smallest : (qs : List Corner) → Holds qs ps → (z : Point) → InPiece (convexHull ps) z → InPiece qs z
+  pub hull-smallest : (qs : List Corner) → HoldsPoints qs ps → (z : Point) → InPiece (convexHull ps) z → InPiece qs z
   hull-smallest qs holds =
       piece-inside hull-polygon qs (λ i below. (let (j, j-below, is) = hull-point i below in rw is at (holds j j-below)))
 

@@ -32,7 +32,7 @@ use Rattle.outline.proofs.EdgeLaws.{accepted-polygon, corner-number, length-abo
 use Rattle.nearest.specs.Piece.{InPiece}
 use Rattle.nearest.proofs.PieceLaws.{whole-in-piece}
 use Rattle.nearest.proofs.Support.{corner-in-piece, turns-left, turns-on}
-use Rattle.hull.specs.Hull.{Holds, IsHull}
+use Rattle.hull.specs.Hull.{HoldsPoints, IsHull}
 use Rattle.hull.proofs.HullLaws.{piece-inside}
 
 -- ---- a point of the piece in the line of an edge a: its vector b from the edge's start
@@ -204,7 +204,7 @@ lowest-piece {cs} polygon lowest v inside =
 -- ---- hulls
 module _ {ps hs : List Corner} (hull : IsHull ps hs) where
   -- each piece that holds the points holds the corners
-  pub hull-inside : (gs : List Corner) → StrictlyConvex gs → Holds gs ps → Inside hs gs
+  pub hull-inside : (gs : List Corner) → StrictlyConvex gs → HoldsPoints gs ps → Inside hs gs
   hull-inside gs convex holds i below =
       hull .smallest gs convex holds (whole (corner hs i)) (corner-in-piece (accepted-polygon (hull .accepted)) i below)
 
@@ -225,7 +225,7 @@ abbrev pub Among : List Corner → List Corner → Type 0
 Among ps qs = (i : ℕ) → i < length ps → (j : ℕ) × (j < length qs) × (corner qs j ≡ corner ps i)
 
 -- what holds some points holds points that are among them
-holds-among : (ps qs cs : List Corner) → Among ps qs → Holds cs qs → Holds cs ps
+holds-among : (ps qs cs : List Corner) → Among ps qs → HoldsPoints cs qs → HoldsPoints cs ps
 holds-among ps qs cs among holds i below = let (j, known, is) = among i below in rw is at (holds j known)
 
 -- the hull goes by the points, not by their order nor by how often each comes

@@ -15,7 +15,7 @@ use Rattle.outline.specs.Convex.{AllInRange}
 use Rattle.outline.specs.Corners.{corners, corner, most}
 use Rattle.outline.specs.Refusal.{Condition, withoutPlace, FirstFault}
 use Rattle.hull.specs.declared.HullAnswer.{HullAnswer}
-use Rattle.hull.specs.declared.HullAnswer.the-variants.{Counted, Refused}
+use Rattle.hull.specs.declared.HullAnswer.the-variants.{Made, Refused}
 use Rattle.hull.specs.Hull.{IsHull}
 use Rattle.hull.specs.Marks.{AreMarks}
 
@@ -72,5 +72,5 @@ module _ (s out marks : List ℤ) where
         → answer ≡ Refused r → out-after ≡ out → marks-after ≡ marks → IsHullAnswer answer out-after marks-after
     -- otherwise the corner count; the corners in their order and then zeros; and the marks
     made : PermittedPoints s (length out) (length marks) → ¬ InLine (corners s) → (hs : List Corner) → IsHull (corners s) hs
-        → answer ≡ Counted (length hs) → out-after ≡ filledUp (length s) (coordinates hs)
+        → answer ≡ Made (length hs) → out-after ≡ filledUp (length s) (coordinates hs)
         → AreMarks (corners s) hs marks-after → IsHullAnswer answer out-after marks-after

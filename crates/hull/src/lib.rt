@@ -4,6 +4,6 @@ use outline::Refusal;
 
 // What the call for the convex hull answers: the corner count, or a refusal.
 pub enum HullAnswer {
-    Counted(usize),
+    Made(usize),
     Refused(Refusal),
 }

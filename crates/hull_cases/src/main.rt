@@ -55,7 +55,7 @@ fn print_answer(answer: HullAnswer) -> usize {
             print_refusal(refusal);
             0
         }
-        HullAnswer::Counted(count) => {
+        HullAnswer::Made(count) => {
             print_natural(count as u64);
             count
         }

@@ -131,12 +131,12 @@ insertionStatus s k v out = statusOfVerdict (insertionVerdict s k v out)
 -- the status, by what the call for the convex hull answers
 abbrev pub statusOfHull : HullAnswer → Status
 statusOfHull (HullAnswer.Refused r) = refusedStatus r
-statusOfHull (HullAnswer.Counted n) = answered
+statusOfHull (HullAnswer.Made n) = answered
 
 -- the result list after that, given what it held before
 abbrev pub resultOfHull : HullAnswer → List ℤ → List ℤ
 resultOfHull (HullAnswer.Refused r) before = before
-resultOfHull (HullAnswer.Counted n) before = ofNumber n
+resultOfHull (HullAnswer.Made n) before = ofNumber n
 
 -- the status that `ravinebowl_convex_hull` returns
 unfoldable pub convexHullStatus : List ℤ → List ℤ → List ℤ → List ℤ → Status

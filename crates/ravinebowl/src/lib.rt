@@ -190,7 +190,7 @@ pub extern "C" fn ravinebowl_convex_hull(
     }
     match calls::convex_hull(points, out, marks) {
         HullAnswer::Refused(refusal) => status::refused(refusal),
-        HullAnswer::Counted(count) => {
+        HullAnswer::Made(count) => {
             write(&results::of_number(count as u64), result, 0);
             status::answered()
         }

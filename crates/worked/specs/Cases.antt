@@ -509,17 +509,17 @@ cases =
     ∷ inserts star 9 (point (pos 16001) (pos 0)) six (Refused (notLeft NoSide 0 3)) six
     ∷ inserts clockwise 1 (point (negsuc 0) (pos 2)) eight (Refused (notLeft NoSide 0 2)) eight
     -- a convex hull, of the points in two orders
-    ∷ hulls cloud (sevens 14) (sevens 7) (HullAnswer.Counted 4) (zerosAfter S 6)
+    ∷ hulls cloud (sevens 14) (sevens 7) (HullAnswer.Made 4) (zerosAfter S 6)
     (pos 2 ∷ pos 0 ∷ negsuc 1 ∷ pos 1 ∷ pos 3 ∷ negsuc 0 ∷ negsuc 1 ∷ [])
-    ∷ hulls cloudBack (sevens 14) (sevens 7) (HullAnswer.Counted 4) (zerosAfter S 6)
+    ∷ hulls cloudBack (sevens 14) (sevens 7) (HullAnswer.Made 4) (zerosAfter S 6)
     (negsuc 1 ∷ pos 2 ∷ pos 3 ∷ pos 1 ∷ negsuc 1 ∷ pos 0 ∷ negsuc 0 ∷ [])
     -- of S and of T walked clockwise, and of outlines that reading refuses
-    ∷ hulls S (sevens 8) (sevens 4) (HullAnswer.Counted 4) S (pos 0 ∷ pos 1 ∷ pos 2 ∷ pos 3 ∷ [])
-    ∷ hulls clockwise (sevens 6) (sevens 3) (HullAnswer.Counted 3) T (pos 0 ∷ pos 2 ∷ pos 1 ∷ [])
-    ∷ hulls straight (sevens 8) (sevens 4) (HullAnswer.Counted 3) (zerosAfter straightHull 2)
+    ∷ hulls S (sevens 8) (sevens 4) (HullAnswer.Made 4) S (pos 0 ∷ pos 1 ∷ pos 2 ∷ pos 3 ∷ [])
+    ∷ hulls clockwise (sevens 6) (sevens 3) (HullAnswer.Made 3) T (pos 0 ∷ pos 2 ∷ pos 1 ∷ [])
+    ∷ hulls straight (sevens 8) (sevens 4) (HullAnswer.Made 3) (zerosAfter straightHull 2)
     (pos 0 ∷ negsuc 1 ∷ pos 1 ∷ pos 2 ∷ [])
-    ∷ hulls star (sevens 10) (sevens 5) (HullAnswer.Counted 5) starHull (pos 3 ∷ pos 0 ∷ pos 2 ∷ pos 4 ∷ pos 1 ∷ [])
-    ∷ hulls twice (sevens 12) (sevens 6) (HullAnswer.Counted 3) (zerosAfter T 6)
+    ∷ hulls star (sevens 10) (sevens 5) (HullAnswer.Made 5) starHull (pos 3 ∷ pos 0 ∷ pos 2 ∷ pos 4 ∷ pos 1 ∷ [])
+    ∷ hulls twice (sevens 12) (sevens 6) (HullAnswer.Made 3) (zerosAfter T 6)
     (pos 0 ∷ pos 1 ∷ pos 2 ∷ negsuc 0 ∷ negsuc 0 ∷ negsuc 0 ∷ [])
     -- points in one line, one point, no points
     ∷ hulls inLine (sevens 6) (sevens 3) (HullAnswer.Refused (refusalWith 2 Nowhere)) (sevens 6) (sevens 3)

@@ -16,7 +16,7 @@ use Rattle.outline.specs.code.Reading.{checkOddLength, checkMost, checkRange}
 use Rattle.outline.specs.Corners.{corners, fewest}
 use Rattle.outline.specs.Refusal.{refusal}
 use Rattle.hull.specs.declared.HullAnswer.{HullAnswer}
-use Rattle.hull.specs.declared.HullAnswer.the-variants.{Counted, Refused}
+use Rattle.hull.specs.declared.HullAnswer.the-variants.{Made, Refused}
 use Rattle.hull.specs.Call.{wrongLengths, noOutline, filledUp}
 use Rattle.hull.specs.code.Wrapping.{convexHull}
 use Rattle.hull.specs.code.Marks.{marks}
@@ -50,7 +50,7 @@ checkHull s room mark-room = first (hullChecks s room mark-room)
 
 -- what the call answers, by that
 abbrev pub answerFor : List ℤ → Verdict → HullAnswer
-answerFor s Verdict.Taken = Counted (length (convexHull (corners s)))
+answerFor s Verdict.Taken = Made (length (convexHull (corners s)))
 answerFor s (Verdict.Refused r) = Refused r
 
 -- what the call answers

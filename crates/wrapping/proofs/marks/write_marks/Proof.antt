@@ -11,12 +11,12 @@ use Rattle.outline.specs.Corners.{corners}
 use Rattle.hull.specs.code.Marks.{marks}
 use Rattle.hull.proofs.Filled.{filled-whole}
 use Rattle.hull.proofs.MarksLaws.{marks-length, marks-at}
-use Rattle.wrapping.proofs.FillingLaws.{Filling, fill-start, fill-next, fill-end, fill-length}
+use Rattle.wrapping.proofs.FillingLaws.{FillingUp, fill-start, fill-next, fill-end, fill-length}
 use Rattle.wrapping.proofs.marks.write_marks.Statement.{statement}
 use Rattle.wrapping.proofs.marks.write_marks.Tie as tie
 
 abbrev Inv-loop : tie.InvT-loop
-Inv-loop s hull out₀ i₀ out i = Filling out₀ (marks (corners s) (corners hull)) i out
+Inv-loop s hull out₀ i₀ out i = FillingUp out₀ (marks (corners s) (corners hull)) i out
 
 abbrev μ-loop : tie.MeasureT-loop
 μ-loop s hull out₀ i₀ out i = length out₀ - i

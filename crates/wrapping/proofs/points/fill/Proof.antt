@@ -6,12 +6,12 @@ use lib.ListN.{length}
 use mir.Facts.{toZ-ofZ}
 use mir.Syntax.{w32}
 use mir.Val.{SFits}
-use Rattle.wrapping.proofs.FillingLaws.{Filling, fill-start, fill-next, fill-end, fill-length}
+use Rattle.wrapping.proofs.FillingLaws.{FillingUp, fill-start, fill-next, fill-end, fill-length}
 use Rattle.wrapping.proofs.points.fill.Statement.{statement}
 use Rattle.wrapping.proofs.points.fill.Tie as tie
 
 abbrev Inv-loop : tie.InvT-loop
-Inv-loop from to₀ i₀ to i = Filling to₀ from i to
+Inv-loop from to₀ i₀ to i = FillingUp to₀ from i to
 
 abbrev μ-loop : tie.MeasureT-loop
 μ-loop from to₀ i₀ to i = length to₀ - i
