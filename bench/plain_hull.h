@@ -178,7 +178,7 @@ static void mark_repeats(const Corner *c, const uint8_t *numbers, size_t n, int3
         uint32_t slot = ((uint32_t)v.x * 0x9e3779b1u + (uint32_t)v.y * 0x85ebca6bu) >> 22;
         while (slots[slot] != 0 && memcmp(&c[slots[slot] - 1], &v, sizeof v) != 0) slot = (slot + 1) % SLOTS;
         if (slots[slot] != 0)
-            marks[numbers[i]] = RAVINEBOWL_MARK_REPEATED;
+            marks[numbers[i]] = RAVINEBOWL_MARK_REPEATS;
         else
             slots[slot] = numbers[i] + 1;
     }
@@ -231,7 +231,7 @@ static __attribute__((noipa)) Refusal plain_convex_hull(const int32_t *s, size_t
     l = add_to_chain(left, l, last, -1);
 
     for (size_t i = 0; i < n; i++) marks[i] = RAVINEBOWL_MARK_NO_CORNER;
-    for (size_t i = 0; i < repeat_count; i++) marks[repeats[i]] = RAVINEBOWL_MARK_REPEATED;
+    for (size_t i = 0; i < repeat_count; i++) marks[repeats[i]] = RAVINEBOWL_MARK_REPEATS;
     if (parts.inner_count > 1) mark_repeats(c, parts.inner, parts.inner_count, marks);
     size_t count = r + l - 2;
     for (size_t i = 0; i < count; i++) {
