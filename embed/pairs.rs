@@ -1,7 +1,7 @@
 //! Compares the generated pairs of crates/pairs through the Rust wrapper, with several allowances each, and prints a line for each
 //! comparison: the lines of crates/pairs/stdout, which a program written apart has made. The input is described in crates/pairs/src/main.rt.
-//! Comparing the corners as chains of linked records must give the same, but for the refusals 1 and 3, which a chain does not get. The
-//! convex hull of the corners of each accepted outline must be that outline, counterclockwise from its lowest corner.
+//! Comparing the corners as chains of linked records must give the same, but for the refusals 1 and 3, which a chain does not get. Where
+//! both outlines are accepted, the convex hull of the corners of each must be that outline, counterclockwise from its lowest corner.
 #[allow(dead_code)] // comparing and the convex hull alone are called here
 mod ravinebowl;
 

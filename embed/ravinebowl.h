@@ -69,8 +69,9 @@ enum ravinebowl_code {
                                           * number of the first such corner or point */
     RAVINEBOWL_REPEATED = 5,             /* a corner equals the one after it; after the last comes corner 0; place: the lowest such corner */
     RAVINEBOWL_NOT_LEFT = 6,             /* removing and inserting a corner: the list, or the result of inserting, is not
-                                          * counterclockwise; the other calls: it fits neither orientation; place, of all calls: the lowest
-                                          * edge that some corner, other than its ends, is not strictly left of, and the lowest such corner */
+                                          * counterclockwise; comparing, the mismatch sum and the nearest point: it fits neither orientation;
+                                          * place, of all of these: the lowest edge that some corner, other than its ends, is not strictly
+                                          * left of, and the lowest such corner */
     RAVINEBOWL_POINT_OUT_OF_RANGE = 7,   /* the point is out of range */
     RAVINEBOWL_NO_SUCH_CORNER = 8,       /* no corner has that number; in inserting: the place is past the number of corners */
     RAVINEBOWL_WRONG_LENGTH = 9,         /* the list to write is not exactly as long as what remains, or as the result of inserting; of a

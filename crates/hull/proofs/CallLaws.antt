@@ -8,11 +8,12 @@
 --     hullAnswer-unique   and nothing else is
 --     hull-refuses        it answers with a refusal exactly where a condition applies
 --     hull-promises       so it has all parts of the call's contract
+--     refused-promises, made-promises    and so have a refused call, and one that is taken
+--     count-at-most       a count is at most 256
 -- Of what the call gives for other points:
 --     among-line          points in one line stay so in any order
 --     order-hull          points in any order, and however often each comes, have the same hull
 --     order-answer        so whatever has the call's promises gives the same count and, for as many points, the same list
---     count-at-most       a count is at most 256
 --     again-hull, again-answer, again-marks    the hull of a hull's corners: the same list, and the marks 0, 1, ..
 -- For the code, by what the checks give:
 --     points-refused, points-short, points-made    refused; too few corners; the answer and both lists

@@ -1,14 +1,18 @@
 -- The convex hull, as it is computed.
---     hull-members          every corner is one of the points
+--     hull-members, hull-point    every corner is one of the points, and so has the number of a point
 --     hull-length           so there are not more
 --     hull-convex           they are strictly convex
 --     hull-covers           where they are right of no line, neither are the points
 --     hull-starts           the first is the lowest, of several the leftmost
 --     hull-short-iff        there are fewer than three exactly where all points lie in one line
---     hull-is               otherwise they are the hull of the points, if those are in range and not more than 256
---     half-plane            every half plane with whole coefficients that holds the corners of a polygon holds its piece
+--     InHalfPlane           a x + b y is at most c at a point
+--     piece-half-plane      every half plane with whole coefficients that holds the corners of a polygon holds its piece
 --     piece-inside          so a piece that holds the corners of a polygon holds its piece
---     hull-half-plane       and one that holds the points holds the piece of their hull
+-- Of points that do not lie in one line:
+--     hull-polygon          the corners are a polygon
+--     hull-holds            its piece holds the points
+--     hull-half-plane, hull-smallest    a half plane, and a piece, that holds the points holds all of it
+--     hull-is               so they are the hull of the points, if those are in range and not more than 256
 use Prim.Native.Nat.{ℕ, _≤_, _<_}
 use native.Mathlib.Decide.{decLt}
 use native.Mathlib.Omega.{arith}
@@ -181,6 +185,11 @@ hull-line o r other ps corners-on i j k i-below j-below k-below =
         (not-right-back o r _ (hull-covers r o ps (λ h among. side-turned o r h (corners-on h among)) _ there))
         (hull-covers o r ps (λ h among. rw (corners-on h among) (≤ℤ-refl (pos 0))) _ there)
 
+-- each corner is a point
+pub hull-point : (ps : List Corner) (i : ℕ) → i < length (convexHull ps)
+    → (j : ℕ) × (j < length ps) × (corner ps j ≡ corner (convexHull ps) i)
+hull-point ps i below = member-corner (hull-members ps _ (corner-member (convexHull ps) i below))
+
 -- where there are at most two corners, all points lie in one line
 module _ (ps : List Corner) where
   -- the corners are all at h: a line through h and another point
@@ -216,15 +225,12 @@ module _ (ps : List Corner) where
     | yes few ↦ few
     | no not ↦
         let hs = convexHull ps in
-        let (i, i-below, i-is) = point 0 (omega arith) in
-        let (j, j-below, j-is) = point 1 (omega arith) in
-        let (k, k-below, k-is) = point 2 (omega arith) in
+        let (i, i-below, i-is) = hull-point ps 0 (omega arith) in
+        let (j, j-below, j-is) = hull-point ps 1 (omega arith) in
+        let (k, k-below, k-is) = hull-point ps 2 (omega arith) in
         absurd (<ℤ-irrefl (rw (← i-is, ← j-is, ← k-is, line i j k i-below j-below k-below) at
         (convex-turns hs (hull-convex ps) 0 1 2 (omega arith) (omega arith) (omega arith))))
   ]
-    where
-      point : (i : ℕ) → i < length (convexHull ps) → (j : ℕ) × (j < length ps) × (corner ps j ≡ corner (convexHull ps) i)
-      point i below = member-corner (hull-members ps _ (corner-member (convexHull ps) i below))
 
 pub hull-short-iff : (ps : List Corner) → (length (convexHull ps) < fewest) ↔ InLine ps
 hull-short-iff ps = (few-corners ps (convexHull ps) refl, line-few ps)
@@ -235,10 +241,10 @@ abbrev pub InHalfPlane : ℤ → ℤ → ℤ → Point → Type 0
 InHalfPlane a b c z = (a *ℤ z .x +ℤ b *ℤ z .y) ≤ℤ (c *ℤ pos (z .lower))
 
 -- in the direction (a, b) no point of the piece lies farther than some corner
-pub half-plane : {cs : List Corner} → Polygon cs → (a b c : ℤ)
+pub piece-half-plane : {cs : List Corner} → Polygon cs → (a b c : ℤ)
     → ((i : ℕ) → i < length cs → InHalfPlane a b c (whole (corner cs i))) → (z : Point) → InPiece cs z → InHalfPlane a b c z
 unfolding dot _⇢_
-half-plane {cs} polygon a b c corners-in z inside =
+piece-half-plane {cs} polygon a b c corners-in z inside =
     let (w, below, far) = support polygon (record { x = a; y = b }) in
     let v = corner cs w in
     let a' = var 0 in let b' = var 1 in let c' = var 2 in let d' = var 7 in
@@ -277,7 +283,7 @@ piece-inside polygon qs holds z inside = record {
   proper = inside .proper;
   right-of-none = λ i below.
       (let o = corner qs i in let r = corner qs (next (length qs) i) in
-      line-half-plane o r z .1 (half-plane polygon (across o r) (up o r) (limit o r)
+      line-half-plane o r z .1 (piece-half-plane polygon (across o r) (up o r) (limit o r)
       (λ j known. line-half-plane o r _ .0 (holds j known .right-of-none i below)) z inside));
 }
 
@@ -288,10 +294,6 @@ module _ (ps : List Corner) (apart : ¬ InLine ps) where
     at-least = elim (decLt (length (convexHull ps)) fewest) [ yes few ↦ absurd (apart (hull-short-iff ps .0 few)) | no not ↦ omega arith ];
     convex = hull-convex ps;
   }
-
-  -- each corner is a point
-  pub hull-point : (i : ℕ) → i < length (convexHull ps) → (j : ℕ) × (j < length ps) × (corner ps j ≡ corner (convexHull ps) i)
-  hull-point i below = member-corner (hull-members ps _ (corner-member (convexHull ps) i below))
 
   -- no corner is right of an edge, so no point is
   pub hull-holds : HoldsPoints (convexHull ps) ps
@@ -305,18 +307,18 @@ module _ (ps : List Corner) (apart : ¬ InLine ps) where
   pub hull-half-plane : (a b c : ℤ) → ((i : ℕ) → i < length ps → InHalfPlane a b c (whole (corner ps i)))
       → (z : Point) → InPiece (convexHull ps) z → InHalfPlane a b c z
   hull-half-plane a b c points-in =
-      half-plane hull-polygon a b c (λ i below. (let (j, j-below, is) = hull-point i below in rw is at (points-in j j-below)))
+      piece-half-plane hull-polygon a b c (λ i below. (let (j, j-below, is) = hull-point ps i below in rw is at (points-in j j-below)))
 
   pub hull-smallest : (qs : List Corner) → HoldsPoints qs ps → (z : Point) → InPiece (convexHull ps) z → InPiece qs z
   hull-smallest qs holds =
-      piece-inside hull-polygon qs (λ i below. (let (j, j-below, is) = hull-point i below in rw is at (holds j j-below)))
+      piece-inside hull-polygon qs (λ i below. (let (j, j-below, is) = hull-point ps i below in rw is at (holds j j-below)))
 
   pub hull-is : length ps ≤ most → AllInRange ps → IsHull ps (convexHull ps)
   hull-is at-most in-range = record {
     accepted = record {
       at-least = hull-polygon .at-least;
       at-most = omega (arith, hull-length ps);
-      in-range = λ i below. (let (j, j-below, is) = hull-point i below in rw is at (in-range j j-below));
+      in-range = λ i below. (let (j, j-below, is) = hull-point ps i below in rw is at (in-range j j-below));
       convex = hull-convex ps;
     };
     holds = hull-holds;

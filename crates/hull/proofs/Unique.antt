@@ -62,7 +62,7 @@ side-from p q r v =
     (hyp 0 ⊞ hyp 1) tt
 
 -- it lies between the ends of the edge
-pub record OnEdge (a b : Vector) : Type 0 where
+record OnEdge (a b : Vector) : Type 0 where
   pub ahead : pos 0 ≤ℤ dot a b
   pub within : dot a b ≤ℤ dot a a
 
@@ -127,11 +127,7 @@ module _ (p q r : Corner) where
       (rw (dot-swap (p ⇀ r) (p ⇀ q)) at (q-on .within)) (line-squares (p ⇀ q) (p ⇀ r) line)))
 
 -- ---- two polygons, each in the other's piece
--- the corners of cs are in the piece of ds
-abbrev pub Inside : List Corner → List Corner → Type 0
-Inside cs ds = (i : ℕ) → i < length cs → InPiece ds (whole (corner cs i))
-
-module _ {cs ds : List Corner} (one : Polygon cs) (two : Polygon ds) (in-ds : Inside cs ds) (in-cs : Inside ds cs) where
+module _ {cs ds : List Corner} (one : Polygon cs) (two : Polygon ds) (in-ds : HoldsPoints ds cs) (in-cs : HoldsPoints cs ds) where
   -- the ends of the two edges are in each other's lines, and on each other's edges
   pub next-same : (i j : ℕ) → i < length cs → j < length ds → corner cs i ≡ corner ds j
       → corner cs (next (length cs) i) ≡ corner ds (next (length ds) j)
@@ -148,7 +144,7 @@ module _ {cs ds : List Corner} (one : Polygon cs) (two : Polygon ds) (in-ds : In
       (rw (← same) at (on-edge two j j-below q q-in (rw same at back)))
 
   module _ (start : corner cs 0 ≡ corner ds 0) where
-    pub corners-same : (i : ℕ) → i < length cs → i < length ds → corner cs i ≡ corner ds i
+    corners-same : (i : ℕ) → i < length cs → i < length ds → corner cs i ≡ corner ds i
     corners-same zero i-below j-below = start
     corners-same (suc i) i-below j-below =
         rw (next-suc (length cs) i i-below, next-suc (length ds) i j-below) at
@@ -164,7 +160,7 @@ module _ {cs ds : List Corner} (one : Polygon cs) (two : Polygon ds) (in-ds : In
         let twice = corner-number two 0 (suc (n - 1)) (omega arith) (omega arith) (sym start ∙ again) in
         absurd (omega arith)
 
-pub polygons-same : {cs ds : List Corner} → Polygon cs → Polygon ds → Inside cs ds → Inside ds cs
+pub polygons-same : {cs ds : List Corner} → Polygon cs → Polygon ds → HoldsPoints ds cs → HoldsPoints cs ds
     → corner cs 0 ≡ corner ds 0 → cs ≡ ds
 polygons-same {cs} {ds} one two in-ds in-cs start =
     let not-less = not-shorter one two in-ds in-cs start in let not-more = not-shorter two one in-cs in-ds (sym start) in
@@ -204,12 +200,12 @@ lowest-piece {cs} polygon lowest v inside =
 -- ---- hulls
 module _ {ps hs : List Corner} (hull : IsHull ps hs) where
   -- each piece that holds the points holds the corners
-  pub hull-inside : (gs : List Corner) → StrictlyConvex gs → HoldsPoints gs ps → Inside hs gs
+  hull-inside : (gs : List Corner) → StrictlyConvex gs → HoldsPoints gs ps → HoldsPoints gs hs
   hull-inside gs convex holds i below =
       hull .smallest gs convex holds (whole (corner hs i)) (corner-in-piece (accepted-polygon (hull .accepted)) i below)
 
   -- so the hull starts at the first of the points of any hull, from the lowest on
-  start-first : (gs : List Corner) → Inside gs hs → fewest ≤ length gs → NotAfter (corner hs 0) (corner gs 0)
+  start-first : (gs : List Corner) → HoldsPoints hs gs → fewest ≤ length gs → NotAfter (corner hs 0) (corner gs 0)
   start-first gs inside enough =
       lowest-piece (accepted-polygon (hull .accepted)) (hull .starts) (corner gs 0) (inside 0 (omega arith))
 

@@ -50,7 +50,7 @@ abbrev pub hullConditions : List ℤ → ℕ → ℕ → List Condition
 hullConditions s room mark-room = pointConditions s room mark-room ++ (noOutline (corners s) ∷ [])
 
 -- what the call asks of the lists: a list of even length, of at most 256 points, all in range, and two lists to write of
--- the right lengths. `hull-taken` in `proofs/CallLaws.antt` shows that no condition applies exactly where this is so and
+-- the right lengths. `hull-taken` in `proofs/CallLaws.antt` shows that the call is taken exactly where this is so and
 -- the points do not lie in one line
 pub record PermittedPoints (s : List ℤ) (room mark-room : ℕ) : Type 0 where
   pub even : length s % 2 ≡ 0

@@ -1,8 +1,8 @@
 -- The order of points from the lowest on, and at one height from the left.
 --     not-after-refl, not-after-trans, not-after-both    it is an order
 --     lower-test        what the test `isLower` says
---     level-falls       an edge at one height that does not go right cannot come before one that turns left and does not
---                       fall, so it falls
+--     level-falls       after an edge that is level and does not go right, one that turns left falls; so where it does not,
+--                       there is no such edge, and it may be said to fall
 --     lowest-between    at the corner between an edge that falls and one that does not, a point right of neither is not
 --                       before the corner
 use mathlib.Core.Path.{_≡_, refl, sym, _∙_}

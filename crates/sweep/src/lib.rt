@@ -4,7 +4,6 @@ use measuring::LocalFeature;
 use measuring::Window;
 use outline::Orientation;
 use outline::Side;
-use plane::Corner;
 use reading::corners::count;
 use reading::corners::held_corner;
 use reading::corners::next;

@@ -230,15 +230,15 @@ zerosAfter s n = s ++ replicate n (pos 0)
 
 -- a list of four numbers to write, whatever they are before
 abbrev pub four : List ℤ
-four = pos 7 ∷ pos 7 ∷ pos 7 ∷ pos 7 ∷ []
+four = sevens 4
 
 -- one of six numbers
 abbrev pub six : List ℤ
-six = pos 7 ∷ pos 7 ∷ four
+six = sevens 6
 
 -- one of eight
 abbrev pub eight : List ℤ
-eight = pos 7 ∷ pos 7 ∷ six
+eight = sevens 8
 
 -- refusal 6, with its edge and corner
 abbrev notLeft : RefusedSide → ℕ → ℕ → Refusal
@@ -525,7 +525,8 @@ cases =
     ∷ hulls inLine (sevens 6) (sevens 3) (HullAnswer.Refused (refusalWith 2 Nowhere)) (sevens 6) (sevens 3)
     ∷ hulls (pos 3 ∷ pos 3 ∷ []) (sevens 2) (sevens 1) (HullAnswer.Refused (refusalWith 2 Nowhere)) (sevens 2) (sevens 1)
     ∷ hulls [] [] [] (HullAnswer.Refused (refusalWith 2 Nowhere)) [] []
-    -- a list of another length comes before that, for the corners and for the marks; a point out of range before both
+    -- a list of another length comes before that, for the corners and for the marks; a point out of range before both, and
+    -- an odd length first
     ∷ hulls [] (sevens 1) [] (HullAnswer.Refused (refusalWith 9 Nowhere)) (sevens 1) []
     ∷ hulls inLine (sevens 6) (sevens 4) (HullAnswer.Refused (refusalWith 9 Nowhere)) (sevens 6) (sevens 4)
     ∷ hulls (pos 0 ∷ pos 0 ∷ pos 1 ∷ pos 16001 ∷ []) [] [] (HullAnswer.Refused (refusalWith 4 (At 1))) [] []

@@ -1,7 +1,7 @@
 -- A list copied to one that is at least as long, with zeros after it.
---     FillingUp                     the invariant of a loop that writes it: the first i numbers are written
+--     FillingUp      the invariant of a loop that writes it: the first i numbers are written
 --     fill-start, fill-next, fill-end    it holds at the start, goes on with a number, and at the end all are written
---     fill-length                 the list stays as long as it is
+--     fill-length    the list stays as long as it is
 use Prim.Native.Nat.{ℕ, _+_, _≤_, _<_}
 use native.Mathlib.Numerals.{add-one}
 use native.Mathlib.Omega.{arith}

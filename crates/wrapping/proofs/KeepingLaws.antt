@@ -2,12 +2,12 @@
 --     Keeping          the invariant: those of the first i points that pass stand first, and from point i on the list is as
 --                      it was
 --     keep-start       it holds at the start
---     keep-count       there are as many points
+--     keep-fewer, keep-count    not more pass than there were, and there are as many points
 --     keep-point       point i is still the one that it was
---     keep-fewer       not more pass than there were
 --     keep-room        there is room for it after those that pass
 --     keep-pass, keep-fail    it goes on with a point that passes, and with one that does not
 --     keep-end         at the end all that pass stand first
+--     keeps-candidates    so the candidates do, as `keep_candidates` promises
 use Prim.Native.Nat.{ℕ, _+_, _*_, _/_, _≤_, _<_}
 use native.Mathlib.Numerals.{add-one}
 use native.Mathlib.Omega.{arith}

@@ -12,7 +12,7 @@ use reading::refusals::refuse;
 ghost use mathlib.Core.Path.{_≡_};
 ghost use Rattle.hull.specs.code.Call.{checkLengths, checkPoints};
 
-// 9: the list for the corners is as long as the list of points, and the one for the marks has a place for each point.
+// 9: the list for the corners is not as long as the list of points, or the one for the marks has not one place for each.
 fn check_lengths(s: &[i32], room: usize, mark_room: usize) -> Verdict
     ensures { λ r. ⌜ r ≡ checkLengths (now (s .entry)) room «mark_room» ⌝ }
 {
