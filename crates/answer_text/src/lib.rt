@@ -1,4 +1,6 @@
 // The parts of an answer as text, for the lines of the programs.
+#![tactic(auto)]
+
 ghost use Rattle.std.specs.Prelude.{◌≡◌};
 ghost use Rattle.text.specs.code.Output.{appended};
 ghost use Rattle.answer_text.specs.Parts.{side_text, corner_text, feature_text, fraction_text, coordinate_text};

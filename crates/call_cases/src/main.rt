@@ -3,6 +3,8 @@
 // corner). The input has the number of cases, and for each the length of A's list and its numbers, the length of B's list
 // and its numbers, and nine numbers, which `Given` names. Each call prints one line. `tests/call_cases.py` writes the input
 // and, by another way, what is to be printed.
+#![tactic(auto)]
+
 mod c_functions;
 mod rattle_calls;
 mod report;
@@ -16,7 +18,7 @@ use plane::Corner;
 const FILL: i32 = 77;
 
 // The numbers of a case beside its lists, and the place in the input after them. A corner number is there in two parts.
-#[derive(Drop)]
+#[derive(Clone, Copy)]
 struct Given {
     x: i32,
     y: i32,

@@ -1,6 +1,8 @@
 // The public calls. Each may be handed any list of any numbers: it does its own checking and has no `requires`.
 // What a call promises it says twice: as an equation with a definition that computes, and in the words of the rules of
 // docs/SPECIFICATION.md (`rules`), from which a caller reads off what holds. Each of the two determines the result.
+#![tactic(auto)]
+
 ghost use Rattle.std.specs.Prelude.{◌≡◌};
 ghost use Rattle.outline.specs.declared.RefusedSide.TheVariants.{NoSide};
 ghost use Rattle.outline.specs.EitherReading.{IsEitherReading};

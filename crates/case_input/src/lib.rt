@@ -1,13 +1,15 @@
 // The numbers of a stored input: decimal, a minus directly before the digits where there is one, and other bytes
 // between them. Nothing here fails: past the end there are zeros, and a number that is too large loses its high
 // bits.
+#![tactic(auto)]
+
 ghost use Rattle.std.specs.Prelude.{◌≡◌, ◌≤◌, length};
 
 // More numbers than any list of an input has.
 pub const LONGEST: usize = 520;
 
 // A number by its sign and size, and the place in the input after it.
-#[derive(Drop)]
+#[derive(Clone, Copy)]
 pub struct Number {
     pub is_negative: bool,
     pub size: u32,
@@ -15,7 +17,7 @@ pub struct Number {
 }
 
 // A list of numbers, and the place in the input after it.
-#[derive(Drop)]
+#[derive(Clone, Copy)]
 pub struct List {
     pub count: usize,
     pub items: [i32; LONGEST],

@@ -1,5 +1,7 @@
 // Lines of the programs that test, which more than one of them prints. Each part of a line but the first has a space before
 // it.
+#![tactic(auto)]
+
 pub mod comparison;
 pub mod edits;
 pub mod status;

@@ -1,5 +1,7 @@
 // Comparing two outlines by a sweep of both: the values that hold them, its steps, and the comparison. `reporting` has
 // what it reports.
+#![tactic(auto)]
+
 pub mod reporting;
 
 ghost use Rattle.std.specs.Prelude.{◌≡◌, ◌<◌, ◌≤◌, length};

@@ -18,7 +18,7 @@ use reading::corners::given_corner;
 use sweep::State;
 
 // What a report needs of a list: its orientation, how many corners it gives, and where corner 0 is.
-#[derive(Drop)]
+#[derive(Clone, Copy)]
 pub struct Listed {
     pub orientation: Orientation,
     pub count: usize,

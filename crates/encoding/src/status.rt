@@ -8,7 +8,7 @@ use outline::{Place, Refusal, RefusedSide, Side};
 
 // Whether a call answered and, if not, why: the code, the side of a refusal, how many place numbers it has, and these.
 #[repr(C)]
-#[derive(Drop)]
+#[derive(Clone, Copy)]
 pub struct Status {
     pub code: u32,
     pub side: u32,

@@ -1,4 +1,6 @@
 // The fit program: reads two outlines from standard input and writes their comparison.
+#![tactic(auto)]
+
 fn main() {
     fit_io::run();
 }

@@ -1,5 +1,7 @@
 // Cases of the fit program: its answers to the inputs that stand in this program's input, one after the other, each
 // ended by byte 255. `tests/cases.py` writes them and, by another way, what is to be written.
+#![tactic(auto)]
+
 ghost use Rattle.std.specs.Prelude.{◌≡◌, ◌≤◌, length};
 
 use libc::STDIN_FILENO;

@@ -1,4 +1,6 @@
 // The fit program from standard input to standard output, for `fit` and for the programs that run it on other inputs.
+#![tactic(auto)]
+
 ghost use Rattle.std.specs.Prelude.{◌≡◌, suc, length};
 ghost use Rattle.fit_text.specs.Response.{most_bytes};
 

@@ -1,4 +1,6 @@
 // A comparison as the lines that the fit program writes.
+#![tactic(auto)]
+
 ghost use Rattle.std.specs.Prelude.{◌≡◌};
 ghost use Rattle.text.specs.code.Output.{appended};
 ghost use Rattle.fit_lines.specs.Lines.{gap_line, number_line, from_line, to_line};

@@ -1,5 +1,7 @@
 // The fit program on an input of more than 16 KiB, of which the first 16 KiB alone would be answered.
 // `tests/cases.py` writes the input and, by another way, what is to be written.
+#![tactic(auto)]
+
 fn main() {
     fit_io::run();
 }

@@ -1,6 +1,8 @@
 // The fit program on another input than the example's: B has the worst corner, its nearest point is a corner of A, and
 // coordinates are negative.
 // `tests/cases.py` writes the input and, by another way, what is to be written.
+#![tactic(auto)]
+
 fn main() {
     fit_io::run();
 }

@@ -1,4 +1,6 @@
 // The fit program on lists of bytes: from the bytes of its input to the bytes that it writes.
+#![tactic(auto)]
+
 mod parsing;
 
 ghost use Rattle.std.specs.Prelude.{◌≡◌, ◌≤◌, length};

@@ -16,7 +16,7 @@ const ALLOWANCE: u32 = 512;
 
 // What a text gives for an outline: how many numbers, and the place after them; a count above 256; or what cannot
 // be read.
-#[derive(Drop)]
+#[derive(Clone, Copy)]
 pub enum Found {
     Numbers(usize, usize),
     TooMany,
@@ -24,7 +24,7 @@ pub enum Found {
 }
 
 // What a text gives: a comparison, or it cannot be read.
-#[derive(Drop)]
+#[derive(Clone, Copy)]
 pub enum Outcome {
     Compared(Comparison),
     Unreadable,

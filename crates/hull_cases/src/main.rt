@@ -5,6 +5,8 @@
 //     NAME refused NUMBER [PLACE] list NUMBER .. marks NUMBER ..
 //     c_hull CODE SIDE PLACES FIRST SECOND list NUMBER .. marks NUMBER .. result NUMBER ..
 // `tests/hull_cases.py` writes the input and, by another way, what is to be printed.
+#![tactic(auto)]
+
 ghost use Rattle.std.specs.Prelude.{◌≤◌};
 
 use case_input::LONGEST;
@@ -18,7 +20,7 @@ use libc::STDIN_FILENO;
 const FILL: i32 = 77;
 
 // The lengths of the lists to write of a case, and the place in the input after them.
-#[derive(Drop)]
+#[derive(Clone, Copy)]
 struct Given {
     out_length: u32,
     marks_length: u32,

@@ -3,6 +3,8 @@
 // Each case prints four lines: `insert`, `c_insert`, and the second of two calls, `insert_remove` and `remove_insert`, or
 // `none` after the name where the first is refused. `tests/insertion_cases.py` writes the input and, by another way, what is
 // to be printed.
+#![tactic(auto)]
+
 ghost use Rattle.std.specs.Prelude.{◌≤◌};
 
 use case_input::LONGEST;
@@ -17,7 +19,7 @@ const FILL: i32 = 77;
 
 // The numbers of a case beside its list, and the place in the input after them. The place of the corner is there in two
 // parts. `back_length` is the length of the list that the second of two calls is to write.
-#[derive(Drop)]
+#[derive(Clone, Copy)]
 struct Given {
     place: usize,
     v: Corner,

@@ -4,13 +4,13 @@ ghost use Rattle.integers.specs.code.Fraction.{order, Bounded};
 ghost use Rattle.integers.specs.code.Units.{whole_units};
 
 // An upper number over a lower number. It is never reduced.
-#[derive(Drop)]
+#[derive(Clone, Copy)]
 pub struct Fraction {
     pub upper: u64,
     pub lower: u64,
 }
 
-#[derive(Drop)]
+#[derive(Clone, Copy)]
 pub enum Order {
     Less,
     Equal,
@@ -33,7 +33,7 @@ fn compare_numbers(x: u64, y: u64) -> Order
 const BASE: u64 = 4294967296;
 
 // A number of up to 96 bits as a high part, of up to 64 bits, and a low part of 32 bits: high * BASE + low.
-#[derive(Drop)]
+#[derive(Clone, Copy)]
 struct Parts {
     high: u64,
     low: u64,

@@ -1,2 +1,4 @@
+#![tactic(auto)]
+
 pub mod fraction;
 pub mod root;

@@ -1,5 +1,7 @@
 // The examples about reading an outline strictly and removing a corner, and cases at the limits, run through the
 // public calls. Each prints one line.
+#![tactic(auto)]
+
 mod large;
 mod report;
 

@@ -1,4 +1,6 @@
 // Measuring a corner of one outline against the support corner of the other.
+#![tactic(auto)]
+
 ghost use Rattle.std.specs.Prelude.{◌≡◌, ℕ};
 ghost use Rattle.integers.specs.code.Fraction.{Bounded};
 ghost use Rattle.plane.specs.Range.{InRange};
@@ -22,7 +24,7 @@ use reading::corners;
 
 // What a step sees of an outline: how many corners it has, its support corner with its number, and the two corners on
 // either side, counted round the outline: `earlier` is the corner before `before`, `later` the corner after `after`.
-#[derive(Drop)]
+#[derive(Clone, Copy)]
 pub struct Window {
     pub count: usize,
     pub number: usize,
@@ -35,7 +37,7 @@ pub struct Window {
 
 // The nearest feature to a point, where it is at the support corner: this corner, an edge that meets there, or that
 // edge's other end. NotCounted: it is another, or the point is within.
-#[derive(Drop)]
+#[derive(Clone, Copy)]
 pub enum LocalFeature {
     NotCounted,
     Corner,

@@ -1,10 +1,12 @@
 // What is answered for the nearest point of an outline to a point.
+#![tactic(auto)]
+
 use integers::fraction::Fraction;
 use outline::Refusal;
 use plane::Point;
 
 // Rule 3.3, the nearest feature. `Within`: the point is in the piece. `Edge(i)`: strictly between the ends of edge i.
-#[derive(Drop)]
+#[derive(Clone, Copy)]
 pub enum Feature {
     Within,
     Corner(usize),
@@ -12,7 +14,7 @@ pub enum Feature {
 }
 
 // The nearest feature, the gap (the squared distance) and the nearest point.
-#[derive(Drop)]
+#[derive(Clone, Copy)]
 pub struct NearestPoint {
     pub feature: Feature,
     pub gap: Fraction,
@@ -20,7 +22,7 @@ pub struct NearestPoint {
 }
 
 // What the call for the nearest point answers.
-#[derive(Drop)]
+#[derive(Clone, Copy)]
 pub enum NearestAnswer {
     Found(NearestPoint),
     Refused(Refusal),

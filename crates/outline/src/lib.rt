@@ -1,4 +1,6 @@
 // An outline as a value, and what is refused and why.
+#![tactic(auto)]
+
 use plane::Corner;
 
 // How few and how many corners an outline can have.
@@ -7,28 +9,28 @@ pub const FEWEST: usize = 3;
 pub const MOST: usize = 256;
 
 // An outline as one value: how many corners it has, and places for 256 of them, the unused ones zero.
-#[derive(Drop)]
+#[derive(Clone, Copy)]
 pub struct Outline {
     pub count: usize,
     pub corners: [Corner; MOST],
 }
 
 // One of the two outlines of a call that takes two.
-#[derive(Drop)]
+#[derive(Clone, Copy)]
 pub enum Side {
     A,
     B,
 }
 
 // The side of a refusal: none in a call with one outline.
-#[derive(Drop)]
+#[derive(Clone, Copy)]
 pub enum RefusedSide {
     NoSide,
     Of(Side),
 }
 
 // The place of a refusal: none, one number, or an edge and a corner.
-#[derive(Drop)]
+#[derive(Clone, Copy)]
 pub enum Place {
     Nowhere,
     At(usize),
@@ -36,7 +38,7 @@ pub enum Place {
 }
 
 // Rule 2.1, a refusal.
-#[derive(Drop)]
+#[derive(Clone, Copy)]
 pub struct Refusal {
     pub number: u32,
     pub side: RefusedSide,
@@ -44,21 +46,21 @@ pub struct Refusal {
 }
 
 // Whether a call, or one of its checks, takes what it is handed.
-#[derive(Drop)]
+#[derive(Clone, Copy)]
 pub enum Verdict {
     Taken,
     Refused(Refusal),
 }
 
 // What the strict reading of a list gives: the outline, or the refusal and an outline without corners.
-#[derive(Drop)]
+#[derive(Clone, Copy)]
 pub struct Reading {
     pub verdict: Verdict,
     pub outline: Outline,
 }
 
 // Rule 1.9, how the corners of a list go round.
-#[derive(Drop)]
+#[derive(Clone, Copy)]
 pub enum Orientation {
     Counterclockwise,
     Clockwise,
@@ -66,7 +68,7 @@ pub enum Orientation {
 
 // What the default reading of a list gives: the outline as it is held, and the orientation of the list; or the refusal,
 // an outline without corners, and Counterclockwise.
-#[derive(Drop)]
+#[derive(Clone, Copy)]
 pub struct EitherReading {
     pub verdict: Verdict,
     pub outline: Outline,

@@ -2,6 +2,8 @@
 // has the length of A's list and its numbers, the length of B's list and its numbers, and the number of allowances
 // and these. Each comparison prints one line (`case_lines::comparison`). `tests/pairs.py` writes the input and, by another
 // way, what is to be printed.
+#![tactic(auto)]
+
 use case_lines::comparison;
 use libc::STDIN_FILENO;
 

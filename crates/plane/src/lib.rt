@@ -1,4 +1,6 @@
 // Points and vectors of the plane with whole coordinates, points with fractions, and the side number with its signs.
+#![tactic(auto)]
+
 ghost use Rattle.std.specs.Prelude.{◌≡◌};
 ghost use Rattle.plane.specs.Vector.{◌⇀◌, cross, dot};
 ghost use Rattle.plane.specs.code.Tests.{is_left, is_right, same, is_lower};
@@ -9,21 +11,21 @@ ghost use Rattle.plane.specs.Range.{InRange};
 ghost use Rattle.plane.specs.code.Range.{Span, reach, is_coordinate, in_range};
 
 // A point with whole coordinates; a corner of an outline.
-#[derive(Drop)]
+#[derive(Clone, Copy)]
 pub struct Corner {
     pub x: i32,
     pub y: i32,
 }
 
 // The signed differences of two points.
-#[derive(Drop)]
+#[derive(Clone, Copy)]
 pub struct Vector {
     pub x: i64,
     pub y: i64,
 }
 
 // A point at x / lower and y / lower, which is never reduced.
-#[derive(Drop)]
+#[derive(Clone, Copy)]
 pub struct Point {
     pub x: i64,
     pub y: i64,

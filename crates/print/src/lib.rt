@@ -1,4 +1,6 @@
 // Text and numbers on standard output.
+#![tactic(auto)]
+
 ghost use Rattle.text.specs.code.Output.{IsText};
 
 use libc::STDOUT_FILENO;

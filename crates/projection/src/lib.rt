@@ -1,4 +1,6 @@
 // The nearest point of an outline to a point, found in one pass over the edges.
+#![tactic(auto)]
+
 pub mod answers;
 pub mod local;
 
@@ -17,7 +19,7 @@ use reading::corners;
 use reading::corners::held_corner;
 
 // What an edge has: the nearest point, or not.
-#[derive(Drop)]
+#[derive(Clone, Copy)]
 pub enum EdgeAnswer {
     NotHere,
     Here(NearestPoint),

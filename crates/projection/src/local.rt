@@ -9,7 +9,7 @@ ghost use Rattle.projection.specs.Part.{nearest_part};
 use plane::Corner;
 
 // A part of an edge: none, its start, strictly between its ends, its end.
-#[derive(Drop)]
+#[derive(Clone, Copy)]
 pub enum Part {
     None,
     Start,

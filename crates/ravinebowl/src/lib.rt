@@ -1,5 +1,7 @@
 // The calls as C functions, over lists that the caller lends. None has a `requires`: each takes any lists. A
 // refusal is a status, and a refused call writes to no list. `embed/ravinebowl.h` declares them for C.
+#![tactic(auto)]
+
 ghost use Rattle.std.specs.Prelude.{◌≡◌, ◌+◌, ◌≤◌, length};
 ghost use Rattle.std.proofs.Math.Seq.{paste};
 ghost use Rattle.hausdorff.specs.code.Sizes.{ReportFits};

@@ -112,7 +112,7 @@ fn check_repeated(s: &[i32], whose: RefusedSide) -> Verdict
 }
 
 // An edge, taken out of the list: the numbers of its ends, the corner that it runs from, and its differences.
-#[derive(Drop)]
+#[derive(Clone, Copy)]
 struct Edge {
     start: usize,
     end: usize,
@@ -187,7 +187,7 @@ fn check_convex(s: &[i32], whose: RefusedSide) -> Verdict
 
 // A corner that the pass over the corners visits: where it is, and the differences to it from corner 0 and from the
 // corner before.
-#[derive(Drop)]
+#[derive(Clone, Copy)]
 struct Visit {
     corner: Corner,
     diagonal: Vector,

@@ -1,4 +1,6 @@
 // Reading an outline from a list of numbers: the checks in their order, and the value that holds an accepted outline.
+#![tactic(auto)]
+
 pub mod checks;
 pub mod corners;
 pub mod refusals;

@@ -1,6 +1,8 @@
 // `compare_records` and its C function on generated stores of linked records. The input has the number of cases, and for
 // each the length of the store and its numbers, and four numbers, which `Given` names. Each call prints one line.
 // `tests/record_cases.py` writes the input and, by another way, what is to be printed.
+#![tactic(auto)]
+
 ghost use Rattle.std.specs.Prelude.{◌≡◌, length};
 
 use case_lines::status::{LONGEST_RESULT, RESULT_FILL};
@@ -11,7 +13,7 @@ use libc::STDIN_FILENO;
 const LONGEST_STORE: usize = 2401;
 
 // The numbers of a case beside its store, and the place in the input after them.
-#[derive(Drop)]
+#[derive(Clone, Copy)]
 struct Given {
     a_start: i32,
     b_start: i32,

@@ -1,4 +1,6 @@
 // The mismatch sum as code: one nearest-point pass for each corner of both outlines.
+#![tactic(auto)]
+
 ghost use Rattle.std.specs.Prelude.{◌≡◌};
 ghost use Rattle.plane.specs.Range.{InRange};
 ghost use Rattle.outline.specs.Corners.{corners};

@@ -1,4 +1,6 @@
 // The sweep of two outlines: its state, a step, and where it begins. `hausdorff` defines what they are.
+#![tactic(auto)]
+
 ghost use Rattle.std.specs.Prelude.{◌≡◌, suc, ◌<◌};
 ghost use Rattle.outline.specs.Convex.{Accepted};
 ghost use Rattle.outline.specs.Corners.{corners};
@@ -16,7 +18,7 @@ use reading::corners::{count, held_corner, next};
 
 // One outline's part of the sweep: its support corner, how many of its edges are still to be passed,
 // and the worst so far of its corners, by the lists as given.
-#[derive(Drop)]
+#[derive(Clone, Copy)]
 pub struct SideState {
     pub support: usize,
     pub remaining: usize,
@@ -24,7 +26,7 @@ pub struct SideState {
 }
 
 // The sweep's state, one part for each side.
-#[derive(Drop)]
+#[derive(Clone, Copy)]
 pub struct State {
     pub a: SideState,
     pub b: SideState,

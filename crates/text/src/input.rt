@@ -9,14 +9,14 @@ ghost use Rattle.text.specs.code.Words.{is_of, run, is_empty};
 const MOST_DIGITS: usize = 5;
 
 // What a word gives: a number, or none.
-#[derive(Drop)]
+#[derive(Clone, Copy)]
 pub enum Parsed {
     Number(i32),
     Invalid,
 }
 
 // What the next word of a text gives, and the place after the word.
-#[derive(Drop)]
+#[derive(Clone, Copy)]
 pub struct Next {
     pub number: Parsed,
     pub end: usize,

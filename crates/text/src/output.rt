@@ -8,7 +8,7 @@ ghost use Rattle.text.specs.code.Output.{pushed, appended};
 const ROOM: usize = 512;
 
 // A text as one value: how many bytes it has, and places for 512 of them, the unused ones zero.
-#[derive(Drop)]
+#[derive(Clone, Copy)]
 pub struct Text {
     pub count: usize,
     pub bytes: [u8; ROOM],

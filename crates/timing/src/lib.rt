@@ -1,5 +1,7 @@
 // The parts of a call that the benchmarks under bench/ time apart. C programs link them beside the library
 // `ravinebowl`.
+#![tactic(auto)]
+
 ghost use Rattle.std.specs.Prelude.{◌≡◌};
 ghost use Rattle.outline.specs.Corners.{corners};
 ghost use Rattle.outline.specs.Orientation.{as_held, AcceptedAs};

@@ -1,4 +1,6 @@
 // Reading the outline of a chain of linked records: the walk from record to record, and its checks.
+#![tactic(auto)]
+
 ghost use Rattle.std.specs.Prelude.{◌≡◌, ◌*◌, ◌≤◌, ◌<◌, length, take};
 ghost use Rattle.outline.specs.Corners.{most};
 ghost use Rattle.records.specs.Chain.{records, record_at, walk, chain_list};
@@ -20,7 +22,7 @@ const CHAIN_TOO_LONG: u32 = 11;
 const NO_SUCH_RECORD: u32 = 12;
 
 // Where a walk stops: how many corners are read, and the index that is met then.
-#[derive(Drop)]
+#[derive(Clone, Copy)]
 pub struct Stop {
     pub count: usize,
     pub index: i32,

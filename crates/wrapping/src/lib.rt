@@ -1,6 +1,8 @@
 // The convex hull of points, by wrapping: from the lowest point on to the corner that comes next, until no point is left
 // to come. In each step the points that can still come are fewer, so n points with h corners take at most n·h tests of
 // each kind.
+#![tactic(auto)]
+
 pub mod checks;
 pub mod marks;
 pub mod points;

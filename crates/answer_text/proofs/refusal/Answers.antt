@@ -1,0 +1,12 @@
+-- `answer_text::refusal` puts side, number and place.
+use Rattle.text.proofs.OutputLaws.{joined}
+use Rattle.answer_text.specs.Parts.{refusal_text}
+use Rattle.answer_text.proofs.refusal.Goals as goal
+
+pub returns : goal.returns
+unfolding refusal_text
+returns c =
+    let letter = joined _ _ _ c.bytes.ensures c.refused_side-t.ensures in
+    let space = joined _ _ _ letter c.bytes-2.ensures in
+    let number = joined _ _ _ space c.natural-t.ensures in
+    joined _ _ _ number c.place.ensures

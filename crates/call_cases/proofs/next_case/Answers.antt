@@ -1,0 +1,11 @@
+-- `call_cases::next_case` is safe: a list's count is at most the length of its array.
+use mathlib.Core.Path.{sym}
+use lib.Seq.{length-take-le}
+use Rattle.call_cases.proofs.next_case.Goals as goal
+
+pub slice_bounds-answer_case-end : goal.slice_bounds-answer_case-end
+slice_bounds-answer_case-end c = sym (length-take-le _ _ c.read_list-a.ensures)
+
+pub slice_bounds-answer_case-end-2 : goal.slice_bounds-answer_case-end-2
+slice_bounds-answer_case-end-2 c =
+    sym (length-take-le _ _ c.read_list-b.ensures)

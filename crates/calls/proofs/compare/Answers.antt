@@ -1,0 +1,18 @@
+-- `calls::compare` goes by what the checks of the lists find, and then by the report of the steps.
+use mathlib.Core.Path.{sym, ◌∙◌}
+use Rattle.hausdorff.proofs.CallLaws.{pair-taken, call-refused, call-reported, call-promises}
+use Rattle.calls.proofs.compare.Goals as goal
+
+pub compare-report-requires : goal.compare-report-requires
+compare-report-requires c =
+    (pair-taken _ _ _ _).0 (sym c.check_pair.ensures ∙ c.in-Taken.is)
+
+pub returns-in-Refused : goal.returns-in-Refused
+returns-in-Refused c =
+    call-promises _ _ _
+    (call-refused _ _ _ c.check_pair.ensures c.in-Refused.is)
+
+pub returns-in-Taken : goal.returns-in-Taken
+returns-in-Taken c =
+    call-promises _ _ _
+    (call-reported _ _ _ c.check_pair.ensures c.in-Taken.is c.compare-report.ensures)

@@ -1,0 +1,22 @@
+-- `calls::insert_corner` goes by what stands against the insertion.
+use mathlib.Core.Path.{sym, ◌∙◌}
+use Rattle.edit.proofs.EditLaws.{list-refused, list-taken}
+use Rattle.edit.proofs.Insertion.{insertion-able, insertion-promises}
+use Rattle.calls.proofs.insert_corner.Goals as goal
+
+pub returns-in-Refused : goal.returns-in-Refused
+returns-in-Refused c =
+    let refuses = sym c.check_insertion.ensures ∙ c.in-Refused.is in
+    let out = c.args.out-1.now in
+    insertion-promises _ _ _ out (sym refuses) (sym (list-refused _ out refuses))
+
+pub write_with-requires : goal.write_with-requires
+write_with-requires c =
+    insertion-able _ _ _ _ (sym c.check_insertion.ensures ∙ c.in_default.is)
+
+pub returns : goal.returns
+returns c =
+    let takes = sym c.check_insertion.ensures
+    ∙ c.in_default.is in
+    let out = c.args.out-1.now in
+    insertion-promises _ _ _ out (sym takes) (c.write_with.ensures ∙ sym (list-taken _ out takes))

@@ -1,0 +1,6 @@
+-- `calls::read_outline` reads, and what reading gives is as laid down.
+use Rattle.outline.proofs.EitherLaws.{either-promises}
+use Rattle.calls.proofs.read_outline.Goals as goal
+
+pub returns : goal.returns
+returns c = either-promises _ _ c.read_either.ensures

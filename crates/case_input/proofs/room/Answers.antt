@@ -1,0 +1,8 @@
+-- `case_input::room` meets its contract, by the law of the length, which does not compute the list.
+use Prim.Native.Nat.{ℕ}
+use mathlib.Core.Path.{sym}
+use lib.ListN.{length-replicate}
+use Rattle.case_input.proofs.room.Goals as goal
+
+pub returns : goal.returns
+returns c = sym (length-replicate {0} {A = ℕ} 1048576 0)

@@ -1,0 +1,8 @@
+-- `case_lines::print_refusal` is safe: what is appended to a text is a text.
+use Rattle.answer_text.proofs.AppendedLaws.{empty-text, longer-text}
+use Rattle.case_lines.proofs.print_refusal.Goals as goal
+
+pub write-requires : goal.write-requires
+write-requires c =
+    let empty = empty-text c.empty.ensures in
+    longer-text _ _ c.refusal.ensures (longer-text _ _ c.bytes.ensures empty)

@@ -1,0 +1,36 @@
+-- `comparing::compare` makes the steps that are allowed, at most all, and reports.
+use borrow.Author.Tests.{ltb-true}
+use mathlib.Core.Logic.{⊎_elim}
+use native.Mathlib.Omega.{arith}
+use Rattle.comparing.proofs.CompareLaws.{counts-fit, counts-total, listed-reportable, compare-reports}
+use Rattle.comparing.proofs.compare.Goals as goal
+
+pub overflow_add-total : goal.overflow_add-total
+overflow_add-total c =
+    omega (arith, counts-fit c.requires.accepted_as c.requires.accepted_as_2 c.count.ensures c.count-2.ensures)
+
+pub overflow_cast-total : goal.overflow_cast-total
+overflow_cast-total c =
+    omega (arith, counts-fit c.requires.accepted_as c.requires.accepted_as_2 c.count.ensures c.count-2.ensures)
+
+pub make_steps-state-requires : goal.make_steps-state-requires
+make_steps-state-requires c =
+    let total = counts-total c.requires.accepted_as c.requires.accepted_as_2 c.count.ensures c.count-2.ensures in
+    (c.requires.accepted_as, (c.requires.accepted_as_2, ⊎_elim (λ w. omega (arith, ltb-true, total)) (λ w. omega (arith, total)) c.if-is_spent.branch))
+
+pub listed-requires : goal.listed-requires
+listed-requires c = omega (arith, c.requires.accepted_as.at_least_lem)
+
+pub listed-requires-2 : goal.listed-requires-2
+listed-requires-2 c = omega (arith, c.requires.accepted_as_2.at_least_lem)
+
+pub report_of-requires : goal.report_of-requires
+report_of-requires c =
+    listed-reportable c.requires.accepted_as c.requires.accepted_as_2 c.make_steps-state.ensures c.listed.ensures c.listed-2.ensures
+
+pub returns : goal.returns
+returns c =
+    compare-reports c.requires.accepted_as c.requires.accepted_as_2 c.count.ensures c.count-2.ensures _
+    (⊎_elim (λ w. rw w.0.taken w.1) (λ w. rw w.0.left w.1) c.if-is_spent.branch)
+    c.make_steps-state.ensures c.listed.ensures c.listed-2.ensures
+    c.report_of.ensures

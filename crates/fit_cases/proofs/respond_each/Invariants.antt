@@ -1,0 +1,10 @@
+-- `fit_cases::respond_each` is safe and ends: each case ends after its start.
+use Prim.Native.Nat.{◌-◌}
+use lib.ListN.{length}
+use Rattle.fit_cases.proofs.respond_each.Given as goal
+
+abbrev pub invariant-loop-from : goal.invariant-loop-from
+invariant-loop-from l = Unit {0}
+
+abbrev pub decreases-loop-from : goal.decreases-loop-from
+decreases-loop-from l = length l.s - l.from

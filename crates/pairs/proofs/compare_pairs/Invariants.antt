@@ -1,0 +1,10 @@
+-- `pairs::compare_pairs` is safe, and ends: it goes on only where the place has grown.
+use Prim.Native.Nat.{◌-◌}
+use lib.ListN.{length}
+use Rattle.pairs.proofs.compare_pairs.Given as goal
+
+abbrev pub invariant-loop-place : goal.invariant-loop-place
+invariant-loop-place l = Unit {0}
+
+abbrev pub decreases-loop-place : goal.decreases-loop-place
+decreases-loop-place l = length l.s - l.place

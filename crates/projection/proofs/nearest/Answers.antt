@@ -1,0 +1,55 @@
+-- `projection::nearest` goes over the edges in order and answers with the first nearest point that is found.
+use mathlib.Core.Path.{◌≡◌, sym, ap, ◌∙◌}
+use native.Mathlib.Nat.{lt_of_lt_of_le}
+use native.Mathlib.Omega.{arith}
+use lib.Dec.{lit<}
+use Rattle.plane.specs.declared.Corner.{Corner}
+use Rattle.plane.specs.Vector.{◌⇀◌}
+use Rattle.outline.specs.Corners.{corners, corner}
+use Rattle.outline.specs.Orientation.{as_held}
+use Rattle.outline.proofs.CornersLaws.{after-below}
+use Rattle.outline.proofs.EitherLaws.{accepted-held}
+use Rattle.outline.proofs.OrientationLaws.{held-length}
+use Rattle.projection.proofs.Pass.{pass-start, pass-none, pass-vectors, pass_on, pass-here}
+use Rattle.projection.proofs.nearest.Goals as goal
+
+-- the vector from v to the end of the edge
+end_is : (c : tie.After-difference2 invariant-loop decreases-loop)
+    → (let args = c.args in
+    c.difference-to_end.result ≡ args.v ⇀ corner (as_held args.orientation (corners args.s.now)) c.next.result)
+end_is c =
+    c.difference-to_end.ensures
+    ∙ ap (λ (p : Corner). c.args.v ⇀ p)
+    c.held_corner-in-loop-i.ensures
+
+pub held_corner-requires : goal.held_corner-requires
+held_corner-requires c = lt_of_lt_of_le (lit< tt) c.requires.accepted_as.at_least_lem
+
+pub loop-i-init : goal.loop-i-init
+loop-i-init c =
+    pass-start (c.count-n.ensures ∙ sym (held-length c.args.orientation _))
+    (c.difference-to_start.ensures ∙ ap (λ (p : Corner). c.args.v ⇀ p) c.held_corner.ensures)
+
+pub held_corner-requires-in-loop-i : goal.held_corner-requires-in-loop-i
+held_corner-requires-in-loop-i c =
+    omega (arith, after-below c.next.ensures c.loop-i-test.true, c.count-n.ensures)
+
+pub at_edge-requires : goal.at_edge-requires
+at_edge-requires c =
+    let (ok, all_in_range) = c.requires in
+    (ok, (all_in_range, pass-vectors c.loop-i.invariant c.loop-i-test.true c.next.ensures (end_is c)))
+
+pub returns-in-Here : goal.returns-in-Here
+returns-in-Here c =
+    pass-here c.loop-i.invariant c.loop-i-test.true c.next.ensures (end_is c)
+    c.at_Edge.ensures (accepted-held c.requires.accepted_as) c.in-Here.is
+
+pub loop-i-preserved : goal.loop-i-preserved
+loop-i-preserved c =
+    pass_on c.loop-i.invariant c.loop-i-test.true c.next.ensures (end_is c)
+    c.at_Edge.ensures c.in_default.is
+
+pub returns : goal.returns
+returns c =
+    c.within.ensures
+    ∙ pass-none c.loop-i.invariant (accepted-held c.requires.accepted_as) (omega arith)

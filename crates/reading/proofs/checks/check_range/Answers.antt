@@ -1,0 +1,18 @@
+-- `reading::checks::check_range` tests the corners in order.
+use mathlib.Core.Path.{refl}
+use Rattle.outline.specs.code.Reading.{check_range}
+use Rattle.outline.proofs.ChecksLaws.{test-start, testing}
+use Rattle.reading.proofs.checks.check_range.Goals as goal
+
+pub loop-i-init : goal.loop-i-init
+unfolding check_range
+loop-i-init c = test-start _ c.count-n.ensures refl
+
+pub returns-then-is_out_of_range : goal.returns-then-is_out_of_range
+returns-then-is_out_of_range c = search testing
+
+pub loop-i-preserved : goal.loop-i-preserved
+loop-i-preserved c = search testing
+
+pub returns : goal.returns
+returns c = search testing

@@ -1,0 +1,10 @@
+-- `summing::mismatch_sum` adds A's corners and B's, whose sum fits.
+use native.Mathlib.Omega.{arith}
+use Rattle.outline.proofs.EitherLaws.{accepted-held}
+use Rattle.mismatch.proofs.MismatchLaws.{mismatch_sum-fits}
+use Rattle.summing.proofs.mismatch_sum.Goals as goal
+
+pub overflow_add-result : goal.overflow_add-result
+overflow_add-result c =
+    let (ok-a, ok-b) = c.requires in
+    omega (arith, mismatch_sum-fits (accepted-held ok-a) (accepted-held ok-b), c.side_sum.ensures, c.side_sum-2.ensures)

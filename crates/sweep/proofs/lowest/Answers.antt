@@ -1,0 +1,27 @@
+-- `sweep::lowest` passes over the corners as held and keeps the lowest, of several the leftmost.
+use mathlib.Core.Path.{sym, ◌∙◌}
+use mathlib.Core.Logic.{⊎_elim}
+use native.Mathlib.Omega.{arith}
+use Rattle.outline.specs.Corners.{corners}
+use Rattle.outline.proofs.OrientationLaws.{held-length}
+use Rattle.sweep.proofs.BeginLaws.{search-start, search-lower, search-on, search-end}
+use Rattle.sweep.proofs.lowest.Goals as goal
+
+pub loop-i-init : goal.loop-i-init
+loop-i-init c =
+    let as_many = held-length c.args.orientation (corners c.args.s.now) in
+    (c.count-n.ensures ∙ sym as_many, search-start (omega (arith, c.requires.at_least)))
+
+pub loop-i-preserved : goal.loop-i-preserved
+loop-i-preserved c =
+    let (counted, searching) = c.loop-i.invariant in
+    let below = rw counted at c.loop-i-test.true in
+    let compared = rw (c.held_corner.ensures, c.held_corner-in-loop-i.ensures)
+    at c.is_lower.ensures in
+    ⊎_elim
+    (λ w. (counted, rw w.1 (search-lower below searching (rw compared at w.0.taken))))
+    (λ w. (counted, rw w.1 (search-on below searching (rw compared at w.0.left))))
+    c.if-is_lower.branch
+
+pub returns : goal.returns
+returns c = search-end c.loop-i.invariant.1 (omega arith)

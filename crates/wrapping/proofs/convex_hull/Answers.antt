@@ -1,0 +1,94 @@
+-- `wrapping::convex_hull` copies the points to a list of its own, and wraps them from the lowest.
+use mathlib.Core.Path.{◌≡◌, refl, sym, ap, ◌∙◌}
+use native.Mathlib.Omega.{arith}
+use Prim.Native.Nat.{ℕ, ◌≤◌, ◌<◌}
+use lib.IntN.{ℤ}
+use lib.ListN.{length, take, drop, length-take}
+use lib.Seq.{take_at, length-take-le}
+use Rattle.lists.proofs.FirstByLaws.{first_by-member}
+use Rattle.plane.specs.declared.Corner.{Corner}
+use Rattle.plane.specs.code.Tests.{is_lower}
+use Rattle.outline.specs.Corners.{corners, corner}
+use Rattle.outline.proofs.CornersLaws.{length-corners}
+use Rattle.hull.specs.Call.{filled_up}
+use Rattle.hull.specs.code.Wrapping.{lowest, is_candidate, kept, hull_from, convex_hull}
+use Rattle.hull.proofs.Filled.{filled-whole}
+use Rattle.wrapping.specs.Steps.{Wraps}
+use Rattle.wrapping.proofs.convex_hull.Goals as goal
+
+-- the list of its own has the points
+copied : (s zs : List ℤ) {filled : List ℤ} → length s ≤ length zs → filled ≡ filled_up (length (take (length s) zs)) s
+    → take (length s) (filled ++ drop (length s) zs) ≡ s
+copied s zs {filled} room is =
+    let same : filled ≡ s = is ∙ filled-whole (length (take (length s) zs)) s (sym (length-take-le (length s) zs room)) in
+    take_at filled (drop (length s) zs) (length s) (ap length same) ∙ same
+
+taken-fits : (n : ℕ) (l s : List ℤ) → take n l ≡ s → length s ≤ length l
+taken-fits n l s is = omega (arith, length-take n l, ap length is)
+
+-- the lowest is one of the points, and the hull starts there
+module _ (cs : List Corner) (some : 0 < length cs) {low : Corner} (is : low ≡ lowest (corner cs 0) (drop 1 cs)) where
+  low-member : Memᴰ low cs
+  low-member = go cs some is
+    where
+      go : (cs : List Corner) → 0 < length cs → low ≡ lowest (corner cs 0) (drop 1 cs) → Memᴰ low cs
+      go [] some is = absurd (omega arith)
+      go (c ∷ cs) some is = rw is (first_by-member is_lower c cs)
+
+  from_low : hull_from low (kept (is_candidate low low) cs) ≡ convex_hull cs
+  unfolding convex_hull
+  from_low = go cs some is
+    where
+      go : (cs : List Corner) → 0 < length cs → low ≡ lowest (corner cs 0) (drop 1 cs)
+          → hull_from low (kept (is_candidate low low) cs) ≡ convex_hull cs
+      go [] some is = absurd (omega arith)
+      go (c ∷ cs) some is = rw is
+
+no-points : (cs : List Corner) (hull : List ℤ) → length cs ≡ 0 → Wraps (convex_hull cs) 0 hull
+unfolding convex_hull
+no-points [] hull none = record { count = refl; first = refl }
+no-points (c ∷ cs) hull none = absurd (omega arith)
+
+-- what stands there after it is filled
+again : (c : tie.After-lowest) → (let s = c.args.s.now in
+    take (length s) (c.fill.new.1.0 ++ drop (length s) c.no_numbers-zs.result) ≡ s)
+again c =
+    copied _ _ (array-borrow-prefix-zs c) c.fill.ensures
+
+pub returns-then-length-eq0 : goal.returns-then-length-eq0
+returns-then-length-eq0 c = no-points _ _ (omega (arith, length-corners c.args.s.now))
+
+-- the list of its own is long enough
+pub slice_bounds-zs-end : goal.slice_bounds-zs-end
+slice_bounds-zs-end c =
+    omega (arith, c.requires.s_len, c.requires.s_len_bound, length-corners c.args.s.now, c.no_numbers-zs.ensures)
+
+pub slice_bounds-fill-end : goal.slice_bounds-fill-end
+slice_bounds-fill-end c = sym (length-take-le _ _ (slice_bounds-zs-end c))
+
+pub fill-requires : goal.fill-requires
+fill-requires c = omega (arith, slice_bounds-fill-end c)
+
+pub lowest-requires : goal.lowest-requires
+lowest-requires c =
+    omega (arith, c.requires.s_len, length-corners c.args.s.now, c.if-length-eq0.false)
+
+pub slice_bounds-zs-end-2 : goal.slice_bounds-zs-end-2
+slice_bounds-zs-end-2 c =
+    let s = c.args.s.now in
+    taken-fits (length s) (c.fill.new.1.0 ++ drop (length s) c.no_numbers-zs.result) s
+    (again c)
+
+pub slice_bounds-wrap-end : goal.slice_bounds-wrap-end
+slice_bounds-wrap-end c = sym (ap length (again c))
+
+pub wrap-requires : goal.wrap-requires
+wrap-requires c =
+    rw (again c) (
+      low-member (corners c.args.s.now) (lowest-requires c c.lowest.lifetimes) c.lowest.ensures,
+      (omega (arith, c.requires.s_len_bound, c.requires.hull_len), c.requires.all_in_range),
+    )
+
+pub returns : goal.returns
+returns c =
+    rw (again c, from_low (corners c.args.s.now) (lowest-requires c c.lowest.lifetimes) c.lowest.ensures) at c.wrap.ensures
