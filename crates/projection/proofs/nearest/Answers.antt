@@ -36,8 +36,7 @@ held_corner-requires-in-loop-i c =
 
 pub at_edge-requires : goal.at_edge-requires
 at_edge-requires c =
-    let (ok, all_in_range) = c.requires in
-    (ok, (all_in_range, pass-vectors c.loop-i.invariant c.loop-i-test.true c.next.ensures (end_is c)))
+    (c.requires.accepted_as, (c.requires.in_range, pass-vectors c.loop-i.invariant c.loop-i-test.true c.next.ensures (end_is c)))
 
 pub returns-in-Here : goal.returns-in-Here
 returns-in-Here c =

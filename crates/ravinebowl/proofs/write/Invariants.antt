@@ -1,5 +1,6 @@
 -- `ravinebowl::write` copies one number a turn.
 use mathlib.Core.Path.{◌≡◌}
+use Prim.Native.Nat.{◌≤◌, ◌-◌}
 use lib.ListN.{length}
 use lib.Seq.{paste}
 use Rattle.ravinebowl.proofs.write.Given as goal

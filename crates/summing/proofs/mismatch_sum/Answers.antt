@@ -6,5 +6,4 @@ use Rattle.summing.proofs.mismatch_sum.Goals as goal
 
 pub overflow_add-result : goal.overflow_add-result
 overflow_add-result c =
-    let (ok-a, ok-b) = c.requires in
-    omega (arith, mismatch_sum-fits (accepted-held ok-a) (accepted-held ok-b), c.side_sum.ensures, c.side_sum-2.ensures)
+    omega (arith, mismatch_sum-fits (accepted-held c.requires.accepted_as) (accepted-held c.requires.accepted_as_2), c.side_sum.ensures, c.side_sum-2.ensures)

@@ -3,6 +3,7 @@ use native.Mathlib.Nat.{lt_of_le_of_lt}
 use native.Mathlib.Omega.{arith}
 use mathlib.Core.List.{List}
 use mathlib.Core.Path.{◌≡◌, sym, ap, ◌∙◌}
+use Prim.Native.Nat.{ℕ, ◌+◌, ◌<◌, ◌^◌}
 use lib.Dec.{lit<}
 use lib.ListN.{length}
 use Rattle.lists.specs.Fold.{fold}
@@ -33,16 +34,16 @@ held_corner-requires c =
 
 pub gap_units-sum-requires : goal.gap_units-sum-requires
 gap_units-sum-requires c =
-    let (ok-s, ok-t) = c.requires in (
-      ok-t,
+    (
+      c.requires.accepted_as_2,
       rw c.held_corner.ensures
-          ((accepted-held ok-s).all_in_range _ (omega (arith, c.loop-i-test.true, c.loop-i.invariant.0))),
+          ((accepted-held c.requires.accepted_as).all_in_range _ (omega (arith, c.loop-i-test.true, c.loop-i.invariant.0))),
     )
 
 pub overflow_add-sum : goal.overflow_add-sum
 overflow_add-sum c =
-    let (ok-s, ok-t) = c.requires in let (counted, so_far) = loop-i-preserved c in
-    omega (arith, fits (accepted-held ok-s) (accepted-held ok-t) counted so_far)
+    let (counted, so_far) = loop-i-preserved c in
+    omega (arith, fits (accepted-held c.requires.accepted_as) (accepted-held c.requires.accepted_as_2) counted so_far)
 
 pub loop-i-preserved : goal.loop-i-preserved
 loop-i-preserved c =

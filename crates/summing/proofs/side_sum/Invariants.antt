@@ -1,5 +1,6 @@
 -- `summing::side_sum` adds the gap of one corner a turn. No sum of some of them is above the bound on the sum of all.
 use mathlib.Core.Path.{◌≡◌}
+use Prim.Native.Nat.{◌-◌, ◌+◌}
 use lib.ListN.{length}
 use Rattle.lists.proofs.FoldLaws.{Folding}
 use Rattle.outline.specs.Corners.{corners, corner}

@@ -1,6 +1,7 @@
 -- `encoding::results::row` puts the numbers of the worst so far between the others.
 use borrow.Author.Rules.{sfits_of}
 use mathlib.Core.Path.{refl, ap, ◌≡◌, ◌∙◌}
+use mathlib.Core.List.{List, ◌∷◌, ◌++◌}
 use Prim.Native.Nat.{ℕ}
 use lib.IntN.{ℤ, pos}
 use lib.ListN.{get_or}

@@ -1,6 +1,7 @@
 -- `integers::root::root` answers `root n`: its loop goes from guess to guess. The measure is the guess.
 use native.Mathlib.Omega.{arith}
 use mathlib.Core.Path.{refl}
+use Prim.Native.Nat.{◌+◌, ◌/◌}
 use lib.Count.{leading_le}
 use Rattle.integers.specs.code.Root.{root_by}
 use Rattle.integers.proofs.Newton.{Guess, half_length-small, guess-first, guess-next, guess-root}

@@ -1,5 +1,6 @@
 -- `integers::root::root` answers `root n`: its loop goes from guess to guess. The measure is the guess.
 use mathlib.Core.Path.{◌≡◌}
+use Prim.Native.Nat.{◌/◌}
 use Rattle.integers.proofs.Newton.{Guess}
 use Rattle.integers.proofs.root.root.Given as goal
 

@@ -1,5 +1,6 @@
 -- `limits::large::list` is safe: y is i (i - 1) / 2, which is below 8002; that it is at most 127 i keeps y + i in
 -- range.
+use Prim.Native.Nat.{◌+◌, ◌*◌, ◌-◌, ◌≤◌}
 use mathlib.Core.Path.{◌≡◌}
 use Rattle.limits.proofs.large.list.Given as goal
 

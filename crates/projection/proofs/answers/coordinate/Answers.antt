@@ -1,4 +1,6 @@
 -- `projection::answers::coordinate` computes exactly in 64 bits: the sum is below 2^47 in size.
+use Prim.Native.Nat.{◌+◌, ◌*◌}
+use lib.IntN.{ℤ, ◌+ℤ◌, ◌*ℤ◌}
 use mir.Syntax.{w32, w64}
 use Rattle.integers.specs.Size.{AtMost}
 use Rattle.integers.proofs.Machine.{i32, i64, Exact, value, stored, plus, times, fits}

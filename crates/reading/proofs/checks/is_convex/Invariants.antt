@@ -1,4 +1,5 @@
 -- `reading::checks::is_convex` visits the corners in order and tests each by its visit and that of the corner before.
+use Prim.Native.Nat.{◌-◌}
 use Rattle.outline.specs.Corners.{corners}
 use Rattle.outline.specs.Orientation.{as_held}
 use Rattle.reading.proofs.checks.is_convex.Given as goal

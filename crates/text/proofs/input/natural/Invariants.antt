@@ -1,4 +1,5 @@
 -- `text::input::natural` goes over the bytes, digit by digit.
+use Prim.Native.Nat.{◌-◌}
 use Rattle.text.proofs.input.natural.Given as goal
 
 abbrev pub invariant-loop-i : goal.invariant-loop-i

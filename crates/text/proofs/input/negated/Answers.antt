@@ -1,6 +1,8 @@
 -- `text::input::negated` goes by the digits; five digits fit with a minus too.
 use mathlib.Core.Path.{◌≡◌}
 use native.Mathlib.Omega.{arith}
+use Prim.Native.Nat.{◌+◌}
+use lib.IntN.{ℤ, pos, ◌-ℤ◌, +ℤ_idl}
 use mir.Syntax.{w32}
 use Rattle.integers.specs.Size.{AtMost}
 use Rattle.integers.proofs.Machine.{Exact, i32, value, stored, minus}

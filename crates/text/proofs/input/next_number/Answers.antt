@@ -3,6 +3,7 @@ use mathlib.Core.Bool.{true, false}
 use mathlib.Core.List.{List, ◌∷◌}
 use mathlib.Core.Path.{◌≡◌, refl}
 use native.Mathlib.Omega.{arith}
+use Prim.Native.Nat.{ℕ, ◌+◌, ◌-◌, ◌≤◌, ◌<◌}
 use lib.ListN.{length, take, drop, length-drop, drop_of_length-le}
 use Rattle.text.specs.declared.input.Parsed.{Parsed}
 use Rattle.text.specs.declared.input.Parsed.TheVariants.{Invalid}

@@ -1,5 +1,6 @@
 -- `text::input::run_end` passes over the run, byte by byte.
 use mathlib.Core.Path.{◌≡◌}
+use Prim.Native.Nat.{◌+◌, ◌-◌}
 use lib.ListN.{length, drop}
 use Rattle.text.specs.code.Words.{run}
 use Rattle.text.proofs.input.run_end.Given as goal

@@ -1,7 +1,9 @@
 -- `text::output::size`: of a number -(k + 1) the code's difference is k, which fits a signed number, and k + 1 is
 -- its size.
+use Prim.Native.Nat.{suc, ◌+◌}
 use mathlib.Core.Path.{◌≡◌, ◌∙◌}
 use native.Mathlib.Omega.{arith}
+use lib.IntN.{ℤ, pos, negsuc, nat_abs, ◌-ℤ◌, +ℤ_comm, -ℤ_one}
 use lib.Signed.{mag, ◌<ℤ◌}
 use mir.Syntax.{w64}
 use mir.Val.{SFits, to_z, of_z}

@@ -1,5 +1,6 @@
 -- `wrapping::marks::corner_number` passes over the corners.
 use mathlib.Core.Path.{◌≡◌}
+use Prim.Native.Nat.{◌-◌}
 use lib.ListN.{length, drop}
 use Rattle.outline.specs.Corners.{corners}
 use Rattle.hull.specs.code.Marks.{number_from}

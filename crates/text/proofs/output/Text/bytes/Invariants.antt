@@ -1,5 +1,6 @@
 -- `Text::bytes` pushes the bytes one after the other.
 use mathlib.Core.Path.{◌≡◌}
+use Prim.Native.Nat.{◌-◌, ◌≤◌}
 use lib.ListN.{length, drop}
 use Rattle.text.specs.code.Output.{appended}
 use Rattle.text.proofs.output.Text.bytes.Given as goal
