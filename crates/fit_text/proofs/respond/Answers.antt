@@ -1,4 +1,5 @@
 -- `fit_text::respond` goes by the length of the input and by what it gives.
+use mathlib.Core.List.{[]}
 use borrow.Author.Tests.{lt-ltb, le-ltb}
 use mathlib.Core.List.{List}
 use mathlib.Core.Path.{◌≡◌, sym, ◌∙◌}

@@ -1,4 +1,5 @@
 -- `fit_text::unreadable` puts the word and a line end into an empty text.
+use mathlib.Core.List.{[]}
 use mathlib.Core.Path.{◌≡◌}
 use native.Mathlib.Omega.{arith}
 use Rattle.text.specs.declared.output.Text.{Text}

@@ -14,9 +14,8 @@ local_values-requires c =
 -- the new gap is a window's, and the old one is asked to be bounded
 pub is_worse-requires : goal.is_worse-requires
 is_worse-requires c =
-    let (_, (window, bounded)) = c.requires in
-    let gap-bounded = local_values-bounded window c.args.own.corner c.args.f in
-    (rw c.local_values.ensures gap-bounded, rw c.in-Worst.is at bounded)
+    let gap-bounded = local_values-bounded c.requires.window_2 c.args.own.corner c.args.f in
+    (rw c.local_values.ensures gap-bounded, rw c.in-Worst.is at c.requires.bounded_worst)
 
 pub returns-in-None : goal.returns-in-None
 returns-in-None c =

@@ -1,4 +1,5 @@
 -- `measuring::is_worse` goes by the order of the two gaps, and by the numbers where these are equal.
+use mathlib.Core.Bool.{◌||◌}
 use Prim.Native.Nat.{ℕ, ◌*◌}
 use mathlib.Core.Bool.{Bool, true, false, cond, not, ◌&&◌}
 use mathlib.Core.Path.{◌≡◌, refl}

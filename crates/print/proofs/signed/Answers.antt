@@ -1,4 +1,5 @@
 -- `print::signed` is safe: what it appends to no text is a text.
+use mathlib.Core.List.{[]}
 use native.Mathlib.Omega.{arith}
 use Rattle.text.specs.Output.{text_of}
 use Rattle.text.proofs.OutputLaws.{appended-text, text_of-text}

@@ -37,13 +37,11 @@ turn_at c =
 
 pub turns_left-requires : goal.turns_left-requires
 turns_left-requires c =
-    let (ok, (all_in_range, seen)) = c.requires in
-    let (start, end) = vectors-span seen (accepted-held ok).all_in_range all_in_range in (end, start)
+    let (start, end) = vectors-span c.requires.edge_vectors (accepted-held c.requires.accepted_as).all_in_range c.requires.in_range in (end, start)
 
 pub returns-then-not-turns_left : goal.returns-then-not-turns_left
 returns-then-not-turns_left c =
-    let (_, (_, seen)) = c.requires in
-    vectors-not-here seen (sym c.turns_left.ensures ∙ not-true _ c.if-not-turns_left.true)
+    vectors-not-here c.requires.edge_vectors (sym c.turns_left.ensures ∙ not-true _ c.if-not-turns_left.true)
 
 pub next-j-requires : goal.next-j-requires
 next-j-requires c = below c

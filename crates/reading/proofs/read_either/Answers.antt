@@ -1,4 +1,5 @@
 -- `reading::read_either` goes by what the checks find, as the definition does.
+use mathlib.Core.List.{[]}
 use mathlib.Core.List.{List}
 use mathlib.Core.Path.{◌≡◌, sym, ◌∙◌}
 use lib.IntN.{ℤ}

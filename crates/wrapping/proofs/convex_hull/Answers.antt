@@ -1,4 +1,5 @@
 -- `wrapping::convex_hull` copies the points to a list of its own, and wraps them from the lowest.
+use mathlib.Core.List.{[]}
 use mathlib.Core.Path.{◌≡◌, refl, sym, ap, ◌∙◌}
 use mathlib.Core.List.{List, ◌∷◌, ◌++◌, Memᴰ}
 use native.Mathlib.Omega.{arith}

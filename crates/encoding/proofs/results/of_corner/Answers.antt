@@ -1,4 +1,5 @@
 -- `encoding::results::of_corner` puts side and corner before the numbers of the nearest point.
+use mathlib.Core.List.{[]}
 use borrow.Author.Rules.{sfits_of}
 use mathlib.Core.List.{◌∷◌}
 use Rattle.encoding.proofs.Signed.{i64-is, element}

@@ -1,4 +1,5 @@
 -- `encoding::results::of_nearest` puts the seven numbers together.
+use mathlib.Core.List.{[]}
 use borrow.Author.Rules.{sfits_of}
 use mathlib.Core.Path.{refl}
 use mathlib.Core.List.{◌∷◌}

@@ -1,4 +1,5 @@
 -- `encoding::results::of_number` gives the one number.
+use mathlib.Core.List.{[]}
 use borrow.Author.Rules.{sfits_of}
 use mathlib.Core.List.{◌∷◌}
 use Rattle.encoding.proofs.Signed.{i64-is}

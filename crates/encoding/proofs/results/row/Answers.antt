@@ -1,4 +1,5 @@
 -- `encoding::results::row` puts the numbers of the worst so far between the others.
+use mathlib.Core.List.{[]}
 use borrow.Author.Rules.{sfits_of}
 use mathlib.Core.Path.{refl, ap, ◌≡◌, ◌∙◌}
 use mathlib.Core.List.{List, ◌∷◌, ◌++◌}

@@ -1,4 +1,5 @@
 -- `fit_text::parsing::read` goes by what the text gives for A.
+use mathlib.Core.List.{[]}
 use mathlib.Core.List.{List}
 use mathlib.Core.Path.{ap, ◌∙◌}
 use native.Mathlib.Omega.{arith}

@@ -8,18 +8,15 @@ use Rattle.integers.proofs.fraction.whole_units.Goals as goal
 
 pub overflow_mul-result : goal.overflow_mul-result
 overflow_mul-result c =
-    let (bounded, (small, fits)) = c.requires in
-    omega (arith, units-by-parts c.args.units c.args.g bounded.lower_positive, fits)
+    omega (arith, units-by-parts c.args.units c.args.g c.requires.bounded.lower_positive, c.requires.g_bound)
 
 pub overflow_mul-result-2 : goal.overflow_mul-result-2
 overflow_mul-result-2 c =
-    let (bounded, (small, fits)) = c.requires in
-    omega (arith, carry-fits (lt_trans (mod-lt c.args.g.upper bounded.lower_positive) bounded.lower_fits) small)
+    omega (arith, carry-fits (lt_trans (mod-lt c.args.g.upper c.requires.bounded.lower_positive) c.requires.bounded.lower_fits) c.requires.units_bound)
 
 pub overflow_add-result : goal.overflow_add-result
 overflow_add-result c =
-    let (bounded, (small, fits)) = c.requires in
-    omega (arith, units-by-parts c.args.units c.args.g bounded.lower_positive, fits)
+    omega (arith, units-by-parts c.args.units c.args.g c.requires.bounded.lower_positive, c.requires.g_bound)
 
 pub returns : goal.returns
 returns c = units-by-parts _ _ c.requires.bounded.lower_positive

@@ -7,11 +7,6 @@ use Rattle.integers.specs.code.Root.{root_by}
 use Rattle.integers.proofs.Newton.{Guess, half_length-small, guess-first, guess-next, guess-root}
 use Rattle.integers.proofs.root.root.Goals as goal
 
--- what a turn of the loop makes of a guess
-next : (c : lts.In-loop reads.Pre reads.Post invariant-loop decreases-loop)
-    → Guess c.args.n ((c.loop-q.r + c.loop-q.q) / 2)
-next c = let inv = c.loop-q.invariant in guess-next (omega arith) inv.0 inv.1 (omega arith)
-
 pub returns-then-n-eq0 : goal.returns-then-n-eq0
 unfolding root_by
 returns-then-n-eq0 c = rw c.if-n-eq0.true
@@ -35,10 +30,11 @@ pub overflow_add-r : goal.overflow_add-r
 overflow_add-r c = record { fits = omega (arith, c.loop-q.invariant.0.small) }
 
 pub nonzero_div-q-in-loop-q : goal.nonzero_div-q-in-loop-q
-nonzero_div-q-in-loop-q c = (next c).positive
+nonzero_div-q-in-loop-q c =
+    let inv = c.loop-q.invariant in (guess-next (omega arith) inv.0 inv.1 (omega arith)).positive
 
 pub loop-q-preserved : goal.loop-q-preserved
-loop-q-preserved c = (next c, refl)
+loop-q-preserved c = let inv = c.loop-q.invariant in (guess-next (omega arith) inv.0 inv.1 (omega arith), refl)
 
 pub returns : goal.returns
 returns c = let inv = c.loop-q.invariant in guess-root inv.0 inv.1 (omega arith)

@@ -41,13 +41,11 @@ module _ {run to : Vector} {l t s r : ℤ} (run_in : Span reach run) (to_in : Sp
 
 pub coordinate-requires : goal.coordinate-requires
 coordinate-requires c =
-    let (start, (run, to)) = c.requires in
-    asked run to c.squared_length-length.ensures c.dot-along.ensures start.x_size run.x_size
+    asked c.requires.span c.requires.span_2 c.squared_length-length.ensures c.dot-along.ensures c.requires.in_range.x_size c.requires.span.x_size
 
 pub coordinate-requires-2 : goal.coordinate-requires-2
 coordinate-requires-2 c =
-    let (start, (run, to)) = c.requires in
-    asked run to c.squared_length-length.ensures c.dot-along.ensures start.y_size run.y_size
+    asked c.requires.span c.requires.span_2 c.squared_length-length.ensures c.dot-along.ensures c.requires.in_range.y_size c.requires.span.y_size
 
 pub overflow_cast-result : goal.overflow_cast-result
 overflow_cast-result c =
@@ -55,8 +53,7 @@ overflow_cast-result c =
 
 pub returns : goal.returns
 returns c =
-    let (start, (run, to)) = c.requires in
-    let x = given run to c.squared_length-length.ensures c.dot-along.ensures start.x_size run.x_size c.coordinate.ensures in
-    let y = given run to c.squared_length-length.ensures c.dot-along.ensures start.y_size run.y_size c.coordinate-2.ensures in
-    let lower = length-exact c.squared_length-length.ensures run in
+    let x = given c.requires.span c.requires.span_2 c.squared_length-length.ensures c.dot-along.ensures c.requires.in_range.x_size c.requires.span.x_size c.coordinate.ensures in
+    let y = given c.requires.span c.requires.span_2 c.squared_length-length.ensures c.dot-along.ensures c.requires.in_range.y_size c.requires.span.y_size c.coordinate-2.ensures in
+    let lower = length-exact c.squared_length-length.ensures c.requires.span in
     λ k. record { x = x k; y = y k; lower = lower k }

@@ -26,25 +26,21 @@ module _ (v before p q after : Corner) (right : is_right p (p ⇀ q) v ≡ true)
 
 pub returns-then-foot_is_between : goal.returns-then-foot_is_between
 returns-then-foot_is_between c =
-    let (_, (_, (_, (_, (_, right))))) = c.requires in
-    between _ _ _ _ _ right (rw c.foot_is_between.ensures at c.if-foot_is_between.true)
+    between _ _ _ _ _ c.requires.v_value (rw c.foot_is_between.ensures at c.if-foot_is_between.true)
 
 pub returns-then-corner_is_nearest : goal.returns-then-corner_is_nearest
 returns-then-corner_is_nearest c =
-    let (_, (_, (_, (_, (_, right))))) = c.requires in
-    start _ _ _ _ _ right (rw c.foot_is_between.ensures at c.if-foot_is_between.false)
+    start _ _ _ _ _ c.requires.v_value (rw c.foot_is_between.ensures at c.if-foot_is_between.false)
     (rw c.corner_is_nearest.ensures at c.if-corner_is_nearest.true)
 
 pub returns-then-corner_is_nearest-2 : goal.returns-then-corner_is_nearest-2
 returns-then-corner_is_nearest-2 c =
-    let (_, (_, (_, (_, (_, right))))) = c.requires in
-    end _ _ _ _ _ right (rw c.foot_is_between.ensures at c.if-foot_is_between.false)
+    end _ _ _ _ _ c.requires.v_value (rw c.foot_is_between.ensures at c.if-foot_is_between.false)
     (rw c.corner_is_nearest.ensures at c.if-corner_is_nearest.false)
     (rw c.corner_is_nearest-2.ensures at c.if-corner_is_nearest-2.true)
 
 pub returns : goal.returns
 returns c =
-    let (_, (_, (_, (_, (_, right))))) = c.requires in
-    none _ _ _ _ _ right (rw c.foot_is_between.ensures at c.if-foot_is_between.false)
+    none _ _ _ _ _ c.requires.v_value (rw c.foot_is_between.ensures at c.if-foot_is_between.false)
     (rw c.corner_is_nearest.ensures at c.if-corner_is_nearest.false)
     (rw c.corner_is_nearest-2.ensures at c.if-corner_is_nearest-2.false)

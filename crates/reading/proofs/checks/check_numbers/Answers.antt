@@ -1,4 +1,5 @@
 -- `reading::checks::check_numbers` makes the checks of the length and then that of the range.
+use mathlib.Core.List.{[]}
 use mathlib.Core.List.{List, ◌∷◌}
 use mathlib.Core.Path.{◌≡◌, sym, ◌∙◌}
 use lib.IntN.{ℤ}

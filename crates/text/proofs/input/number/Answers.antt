@@ -1,4 +1,5 @@
 -- `text::input::number` goes by the first byte: a minus, or the first of the digits.
+use mathlib.Core.List.{[]}
 use mathlib.Core.Bool.{true}
 use mathlib.Core.List.{List, ◌∷◌}
 use mathlib.Core.Logic.{⊎_elim}

@@ -1,5 +1,6 @@
 -- `text::output::size`: of a number -(k + 1) the code's difference is k, which fits a signed number, and k + 1 is
 -- its size.
+use lib.Dec.{ltb→lt}
 use Prim.Native.Nat.{suc, ◌+◌}
 use mathlib.Core.Path.{◌≡◌, ◌∙◌}
 use native.Mathlib.Omega.{arith}
