@@ -75,7 +75,7 @@ module _ (s : List ℤ) (k : ℕ) (v : Corner) where
         (removal-taken (coordinates more) k (length back)).1 (record {
           accepted = insertion-accepted s k v out takes;
           known = rw (corners-coordinates more) (omega (arith, may.known, count));
-          more = rw (corners-coordinates more) (omega (arith, may.accepted.1.at_least_lem, count));
+          more = rw (corners-coordinates more) (omega (arith, may.accepted.1.at_least, count));
           long = rw (corners-coordinates more, again, old) long;
         }) in
         rw (list-taken (coordinates more) out takes)

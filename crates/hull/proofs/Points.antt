@@ -19,7 +19,7 @@ corner-member [] i below = absurd (omega arith)
 corner-member (c ∷ cs) zero below = Memᴰ.head refl
 corner-member (c ∷ cs) (suc i) below = Memᴰ.tail (corner-member cs i (omega arith))
 
-pub member-corner : {cs : List Corner} {z : Corner} → Memᴰ z cs → (i : ℕ) × (i < length cs) × (corner cs i ≡ z)
+pub member-corner : {z : Corner} {cs : List Corner} → Memᴰ z cs → (i : ℕ) × (i < length cs) × (corner cs i ≡ z)
 member-corner (Memᴰ.head is) = (0, omega arith, sym is)
 member-corner (Memᴰ.tail there) = let (i, below, is) = member-corner there in (suc i, omega arith, is)
 

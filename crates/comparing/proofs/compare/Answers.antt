@@ -19,10 +19,10 @@ make_steps-state-requires c =
     (c.requires.accepted_as, (c.requires.accepted_as_2, ⊎_elim (λ w. omega (arith, ltb-true, total)) (λ w. omega (arith, total)) c.if-is_spent.branch))
 
 pub listed-requires : goal.listed-requires
-listed-requires c = omega (arith, c.requires.accepted_as.at_least_lem)
+listed-requires c = omega (arith, c.requires.accepted_as.at_least)
 
 pub listed-requires-2 : goal.listed-requires-2
-listed-requires-2 c = omega (arith, c.requires.accepted_as_2.at_least_lem)
+listed-requires-2 c = omega (arith, c.requires.accepted_as_2.at_least)
 
 pub report_of-requires : goal.report_of-requires
 report_of-requires c =

@@ -23,7 +23,7 @@ end_is c =
     c.held_corner-in-loop-i.ensures
 
 pub held_corner-requires : goal.held_corner-requires
-held_corner-requires c = lt_of_lt_of_le (lit< tt) c.requires.accepted_as.at_least_lem
+held_corner-requires c = lt_of_lt_of_le (lit< tt) c.requires.accepted_as.at_least
 
 pub loop-i-init : goal.loop-i-init
 loop-i-init c =
