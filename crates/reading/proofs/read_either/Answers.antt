@@ -34,7 +34,7 @@ module _ (whose : RefusedSide) (s : List ℤ) {u : Verdict} (is : u ≡ check_ei
 pub orientation-orientation-requires : goal.orientation-orientation-requires
 orientation-orientation-requires c =
     let ok = accepted _ _ c.check_either.ensures c.in-Taken.is in
-    (ok.at_least, ok.all_in_range)
+    record { fewest_in_bounds = ok.at_least; all_in_range = ok.all_in_range }
 
 pub held-requires : goal.held-requires
 held-requires c =

@@ -37,7 +37,11 @@ loop-c-init c = test-start _ c.count-n.ensures refl
 pub is_not_left-requires : goal.is_not_left-requires
 is_not_left-requires c =
     let edge_in = in_reach (corners _) _ c.take_edge-edge.ensures c.requires.e_in_bounds c.requires.all_in_range in
-    (edge_in.0, (edge_in.1, rw c.corner.ensures (c.requires.all_in_range _ (omega arith))))
+    record {
+      span = edge_in.0;
+      in_range = edge_in.1;
+      in_range_2 = rw c.corner.ensures (c.requires.all_in_range _ (omega arith));
+    }
 
 pub returns-then-is_not_left : goal.returns-then-is_not_left
 returns-then-is_not_left c =

@@ -4,3 +4,6 @@ use Rattle.reading.proofs.CheckLaws.{convex-shape}
 use Rattle.reading.proofs.checks.check_shape.Goals as goal
 
 ruleset in_order = (convex-shape, first_stops, first-goes-on, first-last)
+
+pub returns-then-is_convex : goal.returns-then-is_convex
+returns-then-is_convex c = search in_order

@@ -2,10 +2,11 @@
 use Prim.Native.Nat.{◌-◌}
 use Rattle.outline.specs.Corners.{corners}
 use Rattle.outline.specs.Orientation.{as_held}
+use Rattle.reading.proofs.VisitLaws.{Visiting}
 use Rattle.reading.proofs.checks.is_convex.Given as goal
 
 abbrev pub invariant-loop-k : goal.invariant-loop-k
-invariant-loop-k l = Visiting (as_held l.orientation (corners l.s)) l.n l.apex l.run-1 l.last l.k
+invariant-loop-k l = Visiting (as_held l.orientation (corners l.s)) l.n l.apex l.run l.last l.k
 
 abbrev pub decreases-loop-k : goal.decreases-loop-k
 decreases-loop-k l = l.n - l.k

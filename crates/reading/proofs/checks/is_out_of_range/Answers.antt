@@ -2,4 +2,4 @@
 use Rattle.reading.proofs.checks.is_out_of_range.Goals as goal
 
 pub returns : goal.returns
-returns c = rw (c.all_in_range.ensures, c.corner.ensures)
+returns c = rw (c.in_range.ensures, c.corner.ensures)

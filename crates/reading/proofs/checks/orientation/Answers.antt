@@ -21,8 +21,8 @@ use Rattle.reading.proofs.checks.orientation.Goals as goal
 module _ (cs : List Corner) {p q v : Corner} {run : Vector} (is-p : p ≡ corner cs 0) (is-q : q ≡ corner cs 1)
     (is-run : run ≡ p ⇀ q) (is-v : v ≡ corner cs 2) where
   -- what `is_left` asks
-  in_reach : (fewest ≤ length cs) × AllInRange cs → Span reach run × (InRange p × InRange v)
-  in_reach (three, all) =
+  in_reach : fewest ≤ length cs → AllInRange cs → Span reach run × (InRange p × InRange v)
+  in_reach three all =
       let p-in = all 0 (omega arith) in
       (rw (is-run, is-p, is-q) (span-⇀ p-in (all 1 (omega arith))), (rw is-p p-in, rw is-v (all 2 (omega arith))))
 
@@ -32,8 +32,10 @@ module _ (cs : List Corner) {p q v : Corner} {run : Vector} (is-p : p ≡ corner
 
 pub is_left-requires : goal.is_left-requires
 is_left-requires c =
-    in_reach (corners _) c.corner-p.ensures c.corner.ensures c.difference-run.ensures
-    c.corner-2.ensures c.requires
+    let (run, (from, to)) =
+      in_reach (corners _) c.corner-p.ensures c.corner.ensures c.difference-run.ensures
+      c.corner-2.ensures c.requires.fewest_in_bounds c.requires.all_in_range in
+    record { span = run; in_range = from; in_range_2 = to }
 
 pub returns-then-is_left : goal.returns-then-is_left
 returns-then-is_left c =
