@@ -4,6 +4,7 @@ use native.Mathlib.Nat.{lt_of_lt_of_le}
 use native.Mathlib.Omega.{arith}
 use lib.Dec.{lit<}
 use Rattle.plane.specs.declared.Corner.{Corner}
+use Rattle.plane.specs.declared.Vector.{Vector}
 use Rattle.plane.specs.Vector.{◌⇀◌}
 use Rattle.outline.specs.Corners.{corners, corner}
 use Rattle.outline.specs.Orientation.{as_held}
@@ -14,13 +15,8 @@ use Rattle.projection.proofs.Pass.{pass-start, pass-none, pass-vectors, pass_on,
 use Rattle.projection.proofs.nearest.Goals as goal
 
 -- the vector from v to the end of the edge
-end_is : (c : tie.After-difference2 invariant-loop decreases-loop)
-    → (let args = c.args in
-    c.difference-to_end.result ≡ args.v ⇀ corner (as_held args.orientation (corners args.s.now)) c.next.result)
-end_is c =
-    c.difference-to_end.ensures
-    ∙ ap (λ (p : Corner). c.args.v ⇀ p)
-    c.held_corner-in-loop-i.ensures
+end_is : (v : Corner) {p : Corner} {to_end : Vector} (q : Corner) → to_end ≡ v ⇀ p → p ≡ q → to_end ≡ v ⇀ q
+end_is v q is is-p = is ∙ ap (λ (p : Corner). v ⇀ p) is-p
 
 pub held_corner-requires : goal.held_corner-requires
 held_corner-requires c = lt_of_lt_of_le (lit< tt) c.requires.accepted_as.at_least
@@ -36,17 +32,22 @@ held_corner-requires-in-loop-i c =
 
 pub at_edge-requires : goal.at_edge-requires
 at_edge-requires c =
-    (c.requires.accepted_as, (c.requires.in_range, pass-vectors c.loop-i.invariant c.loop-i-test.true c.next.ensures (end_is c)))
+    record {
+      accepted_as = c.requires.accepted_as;
+      in_range = c.requires.in_range;
+      edge_vectors = pass-vectors c.loop-i.invariant c.loop-i-test.true c.next.ensures
+      (end_is _ _ c.difference-to_end.ensures c.held_corner-in-loop-i.ensures);
+    }
 
 pub returns-in-Here : goal.returns-in-Here
 returns-in-Here c =
-    pass-here c.loop-i.invariant c.loop-i-test.true c.next.ensures (end_is c)
-    c.at_Edge.ensures (accepted-held c.requires.accepted_as) c.in-Here.is
+    pass-here c.loop-i.invariant c.loop-i-test.true c.next.ensures (end_is _ _ c.difference-to_end.ensures c.held_corner-in-loop-i.ensures)
+    c.at_edge.ensures (accepted-held c.requires.accepted_as) c.in-Here.is
 
 pub loop-i-preserved : goal.loop-i-preserved
 loop-i-preserved c =
-    pass_on c.loop-i.invariant c.loop-i-test.true c.next.ensures (end_is c)
-    c.at_Edge.ensures c.in_default.is
+    pass_on c.loop-i.invariant c.loop-i-test.true c.next.ensures (end_is _ _ c.difference-to_end.ensures c.held_corner-in-loop-i.ensures)
+    c.at_edge.ensures c.in_default.is
 
 pub returns : goal.returns
 returns c =

@@ -17,9 +17,9 @@ first h k = times (stored w64 (value h) tt) (stored w64 (start_is k) tt)
 second : {t r : ℤ} → AtMost product_limit t → AtMost reach r → Exact (product_limit * reach) (t *ℤ r) (i64 t *ℤ i64 r)
 second h k = times (stored w64 (value h) tt) (stored w64 (value k) tt)
 
-sum : {l s t r : ℤ} → AtMost product_limit l × (AtMost limit s × (AtMost product_limit t × AtMost reach r))
+sum : {l s t r : ℤ} → AtMost product_limit l → AtMost limit s → AtMost product_limit t → AtMost reach r
     → Exact (product_limit * limit + product_limit * reach) (l *ℤ s +ℤ t *ℤ r) (i64 (i64 l *ℤ i64 (i32 s)) +ℤ i64 (i64 t *ℤ i64 r))
-sum (l, (s, (t, r))) = plus (stored w64 (first l s) tt) (stored w64 (second t r) tt)
+sum l s t r = plus (stored w64 (first l s) tt) (stored w64 (second t r) tt)
 
 pub overflow_cast-from : goal.overflow_cast-from
 overflow_cast-from c = fits (start_is c.requires.at_most_2) tt
@@ -31,7 +31,7 @@ pub overflow_mul-result-2 : goal.overflow_mul-result-2
 overflow_mul-result-2 c = fits (second c.requires.at_most_3 c.requires.at_most_4) tt
 
 pub overflow_add-result : goal.overflow_add-result
-overflow_add-result c = fits (sum c.requires) tt
+overflow_add-result c = fits (sum c.requires.at_most c.requires.at_most_2 c.requires.at_most_3 c.requires.at_most_4) tt
 
 pub returns : goal.returns
-returns c = (stored w64 (sum c.requires) tt).exact
+returns c = (stored w64 (sum c.requires.at_most c.requires.at_most_2 c.requires.at_most_3 c.requires.at_most_4) tt).exact
