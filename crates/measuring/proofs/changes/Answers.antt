@@ -9,13 +9,13 @@ returns-then-is_not_counted c = rw (← c.is_not_counted.ensures, c.if-is_not_co
 
 pub local_values-requires : goal.local_values-requires
 local_values-requires c =
-    ((window-range c.requires.window).corner, c.requires.window_2)
+    record { in_range = (window-range c.requires.window).corner; window = c.requires.window_2 }
 
 -- the new gap is a window's, and the old one is asked to be bounded
 pub is_worse-requires : goal.is_worse-requires
 is_worse-requires c =
     let gap-bounded = local_values-bounded c.requires.window_2 c.args.own.corner c.args.f in
-    (rw c.local_values.ensures gap-bounded, rw c.in-Worst.is at c.requires.bounded_worst)
+    record { bounded = rw c.local_values.ensures gap-bounded; bounded_2 = rw c.in-Worst.is at c.requires.bounded_worst }
 
 pub returns-in-None : goal.returns-in-None
 returns-in-None c =

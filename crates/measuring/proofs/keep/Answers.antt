@@ -1,5 +1,4 @@
 -- `measuring::keep` keeps the old worst so far, or puts together what takes its place.
-use borrow.Author.Tests.{not-true, not-false}
 use mathlib.Core.Path.{sym}
 use Rattle.measuring.specs.Window.{given_number}
 use Rattle.measuring.proofs.ChangesLaws.{keeps-old, takes-new}
@@ -10,11 +9,11 @@ pub returns-then-not-changes : goal.returns-then-not-changes
 returns-then-not-changes c =
     let given = c.args in
     sym (keeps-old given.side (given_number given.of_own given.own) given.own.corner given.of_w given.w
-    given.f given.old (not-true _ (rw c.changes.ensures at c.if-not-changes.true)))
+    given.f given.old (rw c.changes.ensures at c.if-not-changes.true))
 
 pub local_values-requires : goal.local_values-requires
 local_values-requires c =
-    ((window-range c.requires.window).corner, c.requires.window_2)
+    record { in_range = (window-range c.requires.window).corner; window = c.requires.window_2 }
 
 pub given_nearest-nearest-requires : goal.given_nearest-nearest-requires
 given_nearest-nearest-requires c =
@@ -24,7 +23,7 @@ pub returns : goal.returns
 returns c =
     let given = c.args in
     let taken = takes-new given.side (given_number given.of_own given.own) given.own.corner given.of_w
-    given.w given.f given.old (not-false _ (rw c.changes.ensures at c.if-not-changes.false)) in
+    given.w given.f given.old (rw c.changes.ensures at c.if-not-changes.false) in
     rw (
       taken,
       c.with_corner.ensures,
