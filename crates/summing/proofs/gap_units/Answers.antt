@@ -14,7 +14,11 @@ pub whole_units-requires : goal.whole_units-requires
 whole_units-requires c =
     let ok = accepted-held c.requires.accepted_as in
     rw c.nearest-nearest.ensures
-    (nearest-bounded ok _, (lit< tt, lt_of_le_of_lt (gap-units-at-most ok c.requires.in_range) (lit< tt)))
+    (record {
+      bounded = nearest-bounded ok _;
+      units_bound = lit< tt;
+      g_bound = lt_of_le_of_lt (gap-units-at-most ok c.requires.in_range) (lit< tt);
+    })
 
 pub returns : goal.returns
 returns c = c.whole_units.ensures ∙ ap (λ (a : NearestPoint). whole_units units a.gap) c.nearest-nearest.ensures

@@ -24,6 +24,11 @@ fits ok-v ok-c counted so_far =
     rw so_far.joined_so_far
     (lt_of_le_of_lt (side-sum-at-most _ (rw counted at so_far.turn) ok-v ok-c) (lit< tt))
 
+-- the gap of corner i is added
+turn : (vs cs : List Corner) {n added i gap : ℕ} {v : Corner} → Folding ◌+◌ 0 (λ k. gap_units cs (corner vs k)) n added i
+    → i < n → gap ≡ gap_units cs v → v ≡ corner vs i → Folding ◌+◌ 0 (λ k. gap_units cs (corner vs k)) n (added + gap) (i + 1)
+turn vs cs so_far below is-gap is-v = rw (is-gap, is-v) (fold_on so_far below)
+
 pub loop-i-init : goal.loop-i-init
 loop-i-init c = (c.count-n.ensures ∙ sym (held-length c.args.of_s _), fold_start _ _ _ _)
 
@@ -34,21 +39,22 @@ held_corner-requires c =
 
 pub gap_units-sum-requires : goal.gap_units-sum-requires
 gap_units-sum-requires c =
-    (
-      c.requires.accepted_as_2,
-      rw c.held_corner.ensures
-          ((accepted-held c.requires.accepted_as).all_in_range _ (omega (arith, c.loop-i-test.true, c.loop-i.invariant.0))),
-    )
+    record {
+      accepted_as = c.requires.accepted_as_2;
+      in_range = rw c.held_corner.ensures
+          ((accepted-held c.requires.accepted_as).all_in_range _ (omega (arith, c.loop-i-test.true, c.loop-i.invariant.0)));
+    }
 
 pub overflow_add-sum : goal.overflow_add-sum
 overflow_add-sum c =
-    let (counted, so_far) = loop-i-preserved c in
-    omega (arith, fits (accepted-held c.requires.accepted_as) (accepted-held c.requires.accepted_as_2) counted so_far)
+    let (counted, so_far) = c.loop-i.invariant in
+    let next = turn _ _ so_far c.loop-i-test.true c.gap_units-sum.ensures c.held_corner.ensures in
+    omega (arith, fits (accepted-held c.requires.accepted_as) (accepted-held c.requires.accepted_as_2) counted next)
 
 pub loop-i-preserved : goal.loop-i-preserved
 loop-i-preserved c =
     let (counted, so_far) = c.loop-i.invariant in
-    (counted, rw (c.gap_units-sum.ensures, c.held_corner.ensures) (fold_on so_far c.loop-i-test.true))
+    (counted, turn _ _ so_far c.loop-i-test.true c.gap_units-sum.ensures c.held_corner.ensures)
 
 pub returns : goal.returns
 returns c =

@@ -1,11 +1,11 @@
 -- `sweep::lowest` passes over the corners as held and keeps the lowest, of several the leftmost.
 use mathlib.Core.Path.{sym, ◌∙◌}
-use mathlib.Core.Logic.{⊎_elim}
 use native.Mathlib.Omega.{arith}
 use Rattle.outline.specs.Corners.{corners}
 use Rattle.outline.proofs.OrientationLaws.{held-length}
 use Rattle.sweep.proofs.BeginLaws.{search-start, search-lower, search-on, search-end}
 use Rattle.sweep.proofs.lowest.Goals as goal
+use Rattle.sweep.proofs.lowest.Goals.{then-is_lower, else-is_lower}
 
 pub loop-i-init : goal.loop-i-init
 loop-i-init c =
@@ -18,10 +18,10 @@ loop-i-preserved c =
     let below = rw counted at c.loop-i-test.true in
     let compared = rw (c.held_corner.ensures, c.held_corner-in-loop-i.ensures)
     at c.is_lower.ensures in
-    ⊎_elim
-    (λ w. (counted, rw w.1 (search-lower below searching (rw compared at w.0.taken))))
-    (λ w. (counted, rw w.1 (search-on below searching (rw compared at w.0.left))))
-    c.if-is_lower.branch
+    elim c.if-is_lower.branch [
+      | then-is_lower w ↦ (counted, rw w.found-is (search-lower below searching (rw compared at w.if-is_lower.true)))
+      | else-is_lower w ↦ (counted, rw w.found-is (search-on below searching (rw compared at w.if-is_lower.false)))
+    ]
 
 pub returns : goal.returns
 returns c = search-end c.loop-i.invariant.1 (omega arith)

@@ -29,13 +29,17 @@ module _ {self : State} {a b : Window} {t : Bool} (asks : Passable self a b)
   a-advances next = (asks.known_a, a-some a b self.a.remaining self.b.remaining (sym is ∙ next))
 
 pub advanced-requires : goal.advanced-requires
-advanced-requires c = b-advances c.requires c.b_is_next.ensures c.if-b_is_next.true
+advanced-requires c =
+    let (known, some) = b-advances c.requires c.b_is_next.ensures c.if-b_is_next.true in
+    record { support_lt_count = known; remaining_nonzero = some }
 
 pub returns-then-b_is_next : goal.returns-then-b_is_next
 returns-then-b_is_next c = rw (← c.b_is_next.ensures, c.if-b_is_next.true, c.advanced.ensures)
 
 pub advanced-requires-2 : goal.advanced-requires-2
-advanced-requires-2 c = a-advances c.requires c.b_is_next.ensures c.if-b_is_next.false
+advanced-requires-2 c =
+    let (known, some) = a-advances c.requires c.b_is_next.ensures c.if-b_is_next.false in
+    record { support_lt_count = known; remaining_nonzero = some }
 
 pub returns : goal.returns
 returns c = rw (← c.b_is_next.ensures, c.if-b_is_next.false, c.advanced-2.ensures)

@@ -1,20 +1,20 @@
 -- `sweep::State::step` finds the local features of both support corners, measures if a worst so far changes, and passes
 -- the next edge.
-use borrow.Author.Tests.{not-true}
 use Rattle.measuring.proofs.WindowLaws.{window-range}
 use Rattle.sweep.proofs.StepLaws.{step-measurable, step-bounded, step-passable, measured-passable}
 use Rattle.sweep.proofs.StepLaws.{unchanged-after, step_after}
 use Rattle.sweep.proofs.State.step.Goals as goal
 
 pub local_feature-local_a-requires : goal.local_feature-local_a-requires
-local_feature-local_a-requires c = let both = step-measurable c.requires in ((window-range both.seen_a).corner, both.seen_b)
+local_feature-local_a-requires c = 
+    let both = step-measurable c.requires in record { in_range = (window-range both.seen_a).corner; window = both.seen_b }
 
 pub local_feature-local_b-requires : goal.local_feature-local_b-requires
 local_feature-local_b-requires c =
-    let both = step-measurable c.requires in ((window-range both.seen_b).corner, both.seen_a)
+    let both = step-measurable c.requires in record { in_range = (window-range both.seen_b).corner; window = both.seen_a }
 
 pub changes_worst-requires : goal.changes_worst-requires
-changes_worst-requires c = (step-measurable c.requires, step-bounded c.requires)
+changes_worst-requires c = record { measurable = step-measurable c.requires; bounded_state = step-bounded c.requires }
 
 pub passed-requires : goal.passed-requires
 passed-requires c = step-passable c.requires
@@ -24,10 +24,10 @@ returns-then-not-changes_worst c can =
     let local-a = c.local_feature-local_a in let local-b = c.local_feature-local_b in
     rw c.passed.ensures
     (unchanged-after can local-a.result local-b.result local-a.ensures local-b.ensures
-    (not-true _ (rw c.changes_worst.ensures at c.if-not-changes_worst.true)))
+    (rw c.changes_worst.ensures at c.if-not-changes_worst.true))
 
 pub with_worst-measured-requires : goal.with_worst-measured-requires
-with_worst-measured-requires c = changes_worst-requires c κs
+with_worst-measured-requires c = record { measurable = step-measurable c.requires; bounded_state = step-bounded c.requires }
 
 pub passed-requires-2 : goal.passed-requires-2
 passed-requires-2 c =
