@@ -47,38 +47,38 @@ loop-k-init c =
 pub previous-requires : goal.previous-requires
 previous-requires c = omega arith
 
+pub bounds-a-previous : goal.bounds-a-previous
+bounds-a-previous c = omega (arith, before-below c.previous.ensures (previous-requires c.before))
+
 pub offset_bounds-a-previous : goal.offset_bounds-a-previous
 offset_bounds-a-previous c = omega (arith, bounds-a-previous c)
-
-pub bounds-a-previous : goal.bounds-a-previous
-bounds-a-previous c = omega (arith, before-below c.previous.ensures (previous-requires c tt))
 
 pub next-requires : goal.next-requires
 next-requires c = omega arith
 
+pub bounds-a-next : goal.bounds-a-next
+bounds-a-next c = omega (arith, after-below c.next.ensures (next-requires c.before))
+
 pub offset_bounds-a-next : goal.offset_bounds-a-next
 offset_bounds-a-next c = omega (arith, bounds-a-next c)
-
-pub bounds-a-next : goal.bounds-a-next
-bounds-a-next c = omega (arith, after-below c.next.ensures (next-requires c tt))
 
 pub previous-requires-in-loop-k : goal.previous-requires-in-loop-k
 previous-requires-in-loop-k c = omega arith
 
+pub bounds-b-previous : goal.bounds-b-previous
+bounds-b-previous c = omega (arith, before-below c.previous-in-loop-k.ensures (previous-requires-in-loop-k c.before))
+
 pub offset_bounds-b-previous : goal.offset_bounds-b-previous
 offset_bounds-b-previous c = omega (arith, bounds-b-previous c)
-
-pub bounds-b-previous : goal.bounds-b-previous
-bounds-b-previous c = omega (arith, before-below c.previous-in-loop-k.ensures (previous-requires-in-loop-k c tt))
 
 pub next-requires-in-loop-k : goal.next-requires-in-loop-k
 next-requires-in-loop-k c = omega arith
 
+pub bounds-b-next : goal.bounds-b-next
+bounds-b-next c = omega (arith, after-below c.next-in-loop-k.ensures (next-requires-in-loop-k c.before))
+
 pub offset_bounds-b-next : goal.offset_bounds-b-next
 offset_bounds-b-next c = omega (arith, bounds-b-next c)
-
-pub bounds-b-next : goal.bounds-b-next
-bounds-b-next c = omega (arith, after-below c.next-in-loop-k.ensures (next-requires-in-loop-k c tt))
 
 pub step-state-requires : goal.step-state-requires
 step-state-requires c =
@@ -102,7 +102,7 @@ loop-k-smaller c =
 pub loop-k-preserved : goal.loop-k-preserved
 unfolding step-state-requires run-can-step
 loop-k-preserved c =
-    run_on c.loop-k.invariant c.loop-k-test.true (c.step-state.ensures (step-state-requires c tt))
+    run_on c.loop-k.invariant c.loop-k-test.true (c.step-state.ensures (step-state-requires c.before))
 
 pub returns : goal.returns
 returns c = run_ends c.loop-k.invariant (omega arith)

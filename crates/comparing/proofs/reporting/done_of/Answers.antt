@@ -8,12 +8,12 @@ worse-answer-requires c =
     let args = c.args in let bounded = c.requires.bounded in
     let of_a = or_within-bounded A args.listed_a.first args.state.a.worst bounded.bounded_a in
     let of_b = or_within-bounded B args.listed_b.first args.state.b.worst bounded.bounded_b in
-    (rw c.or_within-a.ensures of_a, rw c.or_within-b.ensures of_b)
+    record { bounded = rw c.or_within-a.ensures of_a; bounded_2 = rw c.or_within-b.ensures of_b }
 
 pub ceiling_root-requires : goal.ceiling_root-requires
 ceiling_root-requires c =
-    let (of_a, of_b) = worse-answer-requires c κs in
-    rw c.worse-answer.ensures (worse-positive _ _ of_a of_b)
+    let both = worse-answer-requires c.before.before in
+    rw c.worse-answer.ensures (worse-positive _ _ both.bounded both.bounded_2)
 
 pub returns : goal.returns
 returns c =
