@@ -1,6 +1,5 @@
 -- `text::input::natural` goes over the bytes, digit by digit.
-use borrow.Author.Tests.{not-true, not-false}
-use mathlib.Core.Bool.{true, false, cond}
+use mathlib.Core.Bool.{true, false}
 use mathlib.Core.List.{List}
 use mathlib.Core.Path.{◌≡◌, sym, ◌∙◌}
 use native.Mathlib.Nat.{pow-zero, pow-le-pow_right}
@@ -8,7 +7,7 @@ use native.Mathlib.Numerals.{add-one}
 use native.Mathlib.Omega.{arith}
 use Prim.Native.Nat.{ℕ, ◌+◌, ◌^◌, ◌≤◌, ◌<◌}
 use lib.IntN.{pos}
-use lib.ListN.{length, get_or, drop, drop_of_length-le}
+use lib.ListN.{length, get_or, drop_of_length-le}
 use mir.Facts.{to_z-of_z}
 use mir.Syntax.{w32}
 use mir.Val.{SFits, to_z}
@@ -16,15 +15,8 @@ use Rattle.text.specs.declared.input.Parsed.TheVariants.{Number, Invalid}
 use Rattle.text.specs.Number.{is_digit, all_digits, with_digit, value_from, natural}
 use Rattle.text.proofs.NumberLaws.{all-digits-next, value-next, with-digit-below}
 use Rattle.text.proofs.NumberLaws.{natural-empty, natural-long, natural-is}
+use Rattle.text.proofs.input.natural.Invariants.{Passed}
 use Rattle.text.proofs.input.natural.Goals as goal
-
--- The first i bytes of w are digits with the value v: what the word gives is decided by the others.
-record Passed (w : List ℕ) (v i : ℕ) : Type 0 where
-  some : 0 < length w
-  short : length w ≤ 5
-  most : i ≤ length w
-  below : v < 10 ^ i
-  gives : natural w ≡ cond (all_digits (drop i w)) (Number (pos (value_from v (drop i w)))) Invalid
 
 none_passed : (w : List ℕ) → 0 < length w → length w ≤ 5 → Passed w 0 0
 none_passed w some short =
@@ -72,18 +64,18 @@ loop-i-init c = none_passed c.args.w.now (omega arith) (omega arith)
 pub returns-then-not-is_digit : goal.returns-then-not-is_digit
 returns-then-not-is_digit c =
     stops c.loop-i.invariant (omega arith)
-    (sym c.is_digit.ensures ∙ not-true _ c.if-not-is_digit.true)
+    (sym c.is_digit.ensures ∙ c.if-not-is_digit.true)
 
 pub with_digit-value-requires : goal.with_digit-value-requires
-with_digit-value-requires c = (
-  four-digits c.loop-i.invariant (omega arith),
-  sym c.is_digit.ensures ∙ not-false _ c.if-not-is_digit.false,
-)
+with_digit-value-requires c = record {
+  value_bound = four-digits c.loop-i.invariant (omega arith);
+  b_value = sym c.is_digit.ensures ∙ c.if-not-is_digit.false;
+}
 
 pub loop-i-preserved : goal.loop-i-preserved
 loop-i-preserved c =
     rw c.with_digit-value.ensures (goes_on c.loop-i.invariant (omega arith)
-    (sym c.is_digit.ensures ∙ not-false _ c.if-not-is_digit.false))
+    (sym c.is_digit.ensures ∙ c.if-not-is_digit.false))
 
 pub overflow_cast-result : goal.overflow_cast-result
 overflow_cast-result c = five-fit c.loop-i.invariant

@@ -17,14 +17,14 @@ module _ (s : List ℕ) (from : ℕ) {start end : ℕ}
     (starts : start ≡ from + run true (drop from s)) (ends : end ≡ start + run false (drop start s)) where
   -- what the first word gives, and the words from the end on
   abbrev Gives : Parsed → Type 0
-  Gives p = (p ≡ first_number (words (drop from s))) × (words (drop end s) ≡ drop 1 (words (drop from s)))
+  Gives p = record { number : p ≡ first_number (words (drop from s)); end : words (drop end s) ≡ drop 1 (words (drop from s)) }
 
   nothing : end ≤ start → Gives Invalid
   nothing short =
       let none : run false (drop start s) ≡ 0 = omega (arith, ends) in
       let past : length s ≤ start = rw starts (no_word s from (rw starts at none)) in
       let over : length s ≤ end = omega (arith, ends) in
-      rw (past_words s from (rw starts at past), drop_of_length-le s over, words-none) (refl, refl)
+      rw (past_words s from (rw starts at past), drop_of_length-le s over, words-none) (record { number = refl; end = refl })
 
   within : start < end → end ≤ length s
   within some = omega (arith, ends, run-≤ false (drop start s), length-drop start s)
@@ -36,7 +36,7 @@ module _ (s : List ℕ) (from : ℕ) {start end : ℕ}
       rw (long, ends, starts) (next_word s from (rw starts at more))
 
   found : start < end → {p : Parsed} → p ≡ number (take (end - start) (drop start s)) → Gives p
-  found some is = rw (word some) (is, refl)
+  found some is = rw (word some) (record { number = is; end = refl })
 
 pub returns-then-end-start : goal.returns-then-end-start
 returns-then-end-start c = nothing _ _ c.run_end-start.ensures c.run_end-end.ensures c.if-end-start.true

@@ -1,5 +1,4 @@
 -- `text::input::run_end` passes over the run, byte by byte.
-use borrow.Author.Tests.{not-true, not-false}
 use mathlib.Core.Bool.{true, false}
 use mathlib.Core.Path.{◌≡◌, refl, sym, ◌∙◌}
 use native.Mathlib.Omega.{arith}
@@ -15,14 +14,14 @@ pub returns-then-not-is_of : goal.returns-then-not-is_of
 returns-then-not-is_of c =
     let a = c.args in
     let i = c.loop-i.i in
-    let other : is_of a.separators (get_or a.s.now i 0) ≡ false = sym c.is_of.ensures ∙ not-true _ c.if-not-is_of.true in
+    let other : is_of a.separators (get_or a.s.now i 0) ≡ false = sym c.is_of.ensures ∙ c.if-not-is_of.true in
     omega (arith, run-stops a.separators a.s.now i (omega arith) other)
 
 pub loop-i-preserved : goal.loop-i-preserved
 loop-i-preserved c =
     let a = c.args in
     let i = c.loop-i.i in
-    let same : is_of a.separators (get_or a.s.now i 0) ≡ true = sym c.is_of.ensures ∙ not-false _ c.if-not-is_of.false in
+    let same : is_of a.separators (get_or a.s.now i 0) ≡ true = sym c.is_of.ensures ∙ c.if-not-is_of.false in
     omega (arith, run_more a.separators a.s.now i (omega arith) same)
 
 pub returns : goal.returns
