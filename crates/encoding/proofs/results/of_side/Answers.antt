@@ -2,7 +2,6 @@
 use Rattle.outline.specs.declared.Side.{Side}
 use Rattle.outline.specs.declared.Side.TheVariants.{A, B}
 use Rattle.hausdorff.specs.declared.Report.{Report}
-use Rattle.hausdorff.specs.declared.Report.TheVariants as Report
 use Rattle.hausdorff.specs.code.Sizes.{WorstFits, ReportFits}
 use Rattle.encoding.specs.Results.{reported_of}
 use Rattle.encoding.proofs.results.of_side.Goals as goal
