@@ -20,7 +20,7 @@ use Rattle.fit_text.proofs.respond.Goals as goal
 
 module _ (s : List ℕ) where
   abbrev Right : Text → Type 0
-  Right r = (r ≡ text_of (response s)) × (length (response s) ≤ room)
+  Right r = record { bytes : r ≡ text_of (response s); whole : length (response s) ≤ room }
 
   too_long : most_bytes < length s → judged s ≡ Unreadable
   too_long long = rw (lt-ltb most_bytes (length s) long)
@@ -29,13 +29,13 @@ module _ (s : List ℕ) where
   short-enough short = rw (le-ltb most_bytes (length s) short)
 
   unread : {r : Text} → r ≡ text_of (ascii "unreadable\n") → judged s ≡ Unreadable → Right r
-  unread is judgement = (rw judgement is, response-fits s)
+  unread is judgement = record { bytes = rw judgement is; whole = response-fits s }
 
   compared : {t r : Text} {c : Comparison} → t ≡ text_of [] → r ≡ appended t (comparison_text c) → judged s ≡ Compared c
       → Right r
   compared {c} empty is judgement =
       let fits : length (comparison_text c) ≤ room = rw judgement at (response-fits s) in
-      (rw (judgement, is, empty) (text_of-appended [] (comparison_text c) fits), response-fits s)
+      record { bytes = rw (judgement, is, empty) (text_of-appended [] (comparison_text c) fits); whole = response-fits s }
 
 pub returns-then-input-gt-MOST_BYTES : goal.returns-then-input-gt-MOST_BYTES
 returns-then-input-gt-MOST_BYTES c =

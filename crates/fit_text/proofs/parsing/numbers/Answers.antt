@@ -14,7 +14,7 @@ loop-i-init c = none_read _ _ _ _ c.requires
 pub returns-in_default : goal.returns-in_default
 returns-in_default c =
     let first = sym c.next_number-number.ensures.number ∙ c.in_default.is in
-    (omega arith, not-read c.loop-i.invariant (omega arith) first)
+    record { room = omega arith; given = not-read c.loop-i.invariant (omega arith) first }
 
 pub bounds-out-i : goal.bounds-out-i
 bounds-out-i c =
@@ -24,9 +24,8 @@ bounds-out-i c =
 pub loop-i-preserved : goal.loop-i-preserved
 loop-i-preserved c =
     let z-fits : SFits w32 c.in-Number.value = search sfits_of in
-    let (number, rest) = c.next_number-number.ensures in
-    let first = sym number ∙ c.in-Number.is in
-    rw (to_z-of_z z-fits) (one-read c.loop-i.invariant (omega arith) _ first rest)
+    let first = sym c.next_number-number.ensures.number ∙ c.in-Number.is in
+    rw (to_z-of_z z-fits) (one-read c.loop-i.invariant (omega arith) _ first c.next_number-number.ensures.end)
 
 pub returns : goal.returns
-returns c = (c.requires, all_read c.loop-i.invariant (omega arith))
+returns c = record { room = c.requires; given = all_read c.loop-i.invariant (omega arith) }

@@ -12,19 +12,19 @@ use Rattle.fit_text.proofs.parsing.outline.Goals as goal
 pub returns-in_default : goal.returns-in_default
 returns-in_default c =
     let first = sym c.next_number-number.ensures.number ∙ c.in_default.is in
-    (omega arith, outline-stop _ first)
+    record { room = omega arith; given = outline-stop _ first }
 
 pub returns-then-count-lt0 : goal.returns-then-count-lt0
 returns-then-count-lt0 c =
     let z-fits : SFits w32 c.in-Number.count = search sfits_of in
     let first = sym c.next_number-number.ensures.number ∙ c.in-Number.is in
-    (omega arith, outline-negative _ _ first (rw (to_z-of_z z-fits) at c.if-count-lt0.true))
+    record { room = omega arith; given = outline-negative _ _ first (rw (to_z-of_z z-fits) at c.if-count-lt0.true) }
 
 pub returns-then-count : goal.returns-then-count
 returns-then-count c =
     let z-fits : SFits w32 c.in-Number.count = search sfits_of in
     let first = sym c.next_number-number.ensures.number ∙ c.in-Number.is in
-    (omega arith, outline-many _ _ first (rw (to_z-of_z z-fits) at c.if-count.true))
+    record { room = omega arith; given = outline-many _ _ first (rw (to_z-of_z z-fits) at c.if-count.true) }
 
 pub numbers-requires : goal.numbers-requires
 numbers-requires c =
@@ -36,8 +36,10 @@ pub returns : goal.returns
 returns c =
     let z-fits : SFits w32 c.in-Number.count = search sfits_of in
     let first = sym c.next_number-number.ensures.number ∙ c.in-Number.is in
-    let (room, given) = c.numbers.ensures in
     let not_below = rw (to_z-of_z z-fits) at c.if-count-lt0.false in
     let not_above = rw (to_z-of_z z-fits) at c.if-count.false in
     let counted = outline-counted _ _ first not_below not_above in
-    (room, given ∙ rw (to_z-of_z z-fits, c.next_number-number.ensures.end) counted)
+    record {
+      room = c.numbers.ensures.room;
+      given = c.numbers.ensures.given ∙ rw (to_z-of_z z-fits, c.next_number-number.ensures.end) counted;
+    }

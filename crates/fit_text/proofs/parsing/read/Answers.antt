@@ -14,12 +14,12 @@ use Rattle.fit_text.proofs.parsing.read.Goals as goal
 pub slice_bounds-a-end : goal.slice_bounds-a-end
 slice_bounds-a-end c =
     let called = c.outline in
-    omega (arith, has_room c.in-Numbers.is called.ensures.0, called.auto.1.1.0)
+    omega (arith, has_room c.in-Numbers.is called.ensures.room)
 
 pub slice_bounds-with_b-end : goal.slice_bounds-with_b-end
 slice_bounds-with_b-end c =
     let called = c.outline in
-    rw length-take (omega (arith, has_room c.in-Numbers.is called.ensures.0, called.auto.1.1.0))
+    rw length-take (omega (arith, has_room c.in-Numbers.is called.ensures.room))
 
 pub returns-in-Unreadable : goal.returns-in-Unreadable
 returns-in-Unreadable c =

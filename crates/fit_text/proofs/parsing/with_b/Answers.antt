@@ -1,5 +1,4 @@
 -- `fit_text::parsing::with_b` goes by what the text gives for B, and then by whether words are left.
-use borrow.Author.Tests.{not-true, not-false}
 use mathlib.Core.List.{List}
 use mathlib.Core.Path.{sym, ap, ◌∙◌}
 use native.Mathlib.Omega.{arith}
@@ -14,17 +13,17 @@ use Rattle.fit_text.proofs.parsing.with_b.Goals as goal
 pub returns-then-not-is_at_end : goal.returns-then-not-is_at_end
 returns-then-not-is_at_end c =
     let given = given-case _ _ _ c.outline.ensures.given c.in-Numbers.is in
-    with-b-more _ _ given (sym c.is_at_end.ensures ∙ not-true _ c.if-not-is_at_end.true)
+    with-b-more _ _ given (sym c.is_at_end.ensures ∙ c.if-not-is_at_end.true)
 
 pub slice_bounds-b-end : goal.slice_bounds-b-end
 slice_bounds-b-end c =
     let called = c.outline in
-    omega (arith, has_room c.in-Numbers.is called.ensures.0, called.auto.1.1.0)
+    omega (arith, has_room c.in-Numbers.is called.ensures.room)
 
 pub slice_bounds-compare-end-in-Numbers : goal.slice_bounds-compare-end-in-Numbers
 slice_bounds-compare-end-in-Numbers c =
     let called = c.outline in
-    rw length-take (omega (arith, has_room c.in-Numbers.is called.ensures.0, called.auto.1.1.0))
+    rw length-take (omega (arith, has_room c.in-Numbers.is called.ensures.room))
 
 pub returns-in-Unreadable : goal.returns-in-Unreadable
 returns-in-Unreadable c =
@@ -40,5 +39,5 @@ returns-in-TooMany c =
 pub returns-else-not-is_at_end : goal.returns-else-not-is_at_end
 returns-else-not-is_at_end c =
     let given = given-case _ _ _ c.outline.ensures.given c.in-Numbers.is in
-    let end = sym c.is_at_end.ensures ∙ not-false _ c.if-not-is_at_end.false in
+    let end = sym c.is_at_end.ensures ∙ c.if-not-is_at_end.false in
     ap Compared c.compare-in-Numbers.ensures.answer ∙ with-b-end _ _ given end
