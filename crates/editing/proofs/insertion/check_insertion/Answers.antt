@@ -65,5 +65,21 @@ check_placing-requires c = (read-accepted _ c.check.ensures c.in_default.is).at_
 
 pub check_result-requires : goal.check_result-requires
 check_result-requires c =
-    asks _ _ _ _ c.check.ensures c.in_default.is
-    c.check_placing.ensures c.in_default-check_placing.is
+    let (three, (room, (all, (known, point)))) =
+    asks _ _ _ _ c.check.ensures c.in_default.is c.check_placing.ensures c.in_default-check_placing.is in
+    record {
+      fewest_in_bounds = three;
+      s_len_bound = room;
+      all_in_range = all;
+      k_in_bounds = known;
+      in_range = point;
+    }
+
+pub returns-in-Refused : goal.returns-in-Refused
+returns-in-Refused c = search in_order
+
+pub returns-in-Refused-check_placing : goal.returns-in-Refused-check_placing
+returns-in-Refused-check_placing c = search in_order
+
+pub returns : goal.returns
+returns c = search in_order

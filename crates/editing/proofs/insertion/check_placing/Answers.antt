@@ -2,7 +2,7 @@
 use borrow.Author.Tests.{lt-ltb, le-ltb, eq-eqb, ne_eqb}
 use mathlib.Core.Path.{◌≡◌, ◌∙◌}
 use mathlib.Core.Logic.{◌≢◌}
-use mathlib.Core.Bool.{true, false, not}
+use mathlib.Core.Bool.{true, false}
 use mathlib.Core.List.{List}
 use Prim.Native.Nat.{ℕ, ◌+◌, ◌*◌, ◌≤◌, ◌<◌}
 use lib.ListN.{length}
@@ -26,11 +26,11 @@ module _ (cs : List Corner) (k : ℕ) (v : Corner) (room : ℕ) {n : ℕ} (count
   past is = rw (← count, lt-ltb n k is)
 
   module _ (known : k ≤ n) where
-    out : not (in_range v) ≡ true → Refused (refusal (point_out_of_range v) Nowhere) ≡ check_placing cs k v room
+    out : in_range v ≡ false → Refused (refusal (point_out_of_range v) Nowhere) ≡ check_placing cs k v room
     unfolding check_placing
     out is = rw (← count, le-ltb n k known, is)
 
-    module _ (all_in_range : not (in_range v) ≡ false) where
+    module _ (all_in_range : in_range v ≡ true) where
       already : n ≡ most → Refused (refusal (full cs) Nowhere) ≡ check_placing cs k v room
       unfolding check_placing
       already is = rw (← count, le-ltb n k known, all_in_range, eq-eqb n most is)
@@ -67,21 +67,21 @@ returns-then-n-k c = c.refuse.ensures ∙ past _ _ _ _ c.count-n.ensures c.if-n-
 pub returns-then-not-in_range : goal.returns-then-not-in_range
 returns-then-not-in_range c =
     c.refuse-then-not-in_range.ensures
-    ∙ out _ _ _ _ c.count-n.ensures c.if-n-k.false (rw c.all_in_range.ensures at c.if-not-in_range.true)
+    ∙ out _ _ _ _ c.count-n.ensures c.if-n-k.false (rw c.in_range.ensures at c.if-not-in_range.true)
 
 pub returns-then-n-eq-MOST : goal.returns-then-n-eq-MOST
 returns-then-n-eq-MOST c =
     c.refuse-then-n-eq-MOST.ensures
-    ∙ already _ _ _ _ c.count-n.ensures c.if-n-k.false (rw c.all_in_range.ensures at c.if-not-in_range.false)
+    ∙ already _ _ _ _ c.count-n.ensures c.if-n-k.false (rw c.in_range.ensures at c.if-not-in_range.false)
     c.if-n-eq-MOST.true
 
 pub returns-then-room-n : goal.returns-then-room-n
 returns-then-room-n c =
     c.refuse-then-room-n.ensures
     ∙ wrong-length _ _ _ _ c.count-n.ensures c.if-n-k.false
-    (rw c.all_in_range.ensures at c.if-not-in_range.false) c.if-n-eq-MOST.false c.if-room-n.true
+    (rw c.in_range.ensures at c.if-not-in_range.false) c.if-n-eq-MOST.false c.if-room-n.true
 
 pub returns : goal.returns
 returns c =
     nothing _ _ _ _ c.count-n.ensures c.if-n-k.false
-    (rw c.all_in_range.ensures at c.if-not-in_range.false) c.if-n-eq-MOST.false c.if-room-n.false
+    (rw c.in_range.ensures at c.if-not-in_range.false) c.if-n-eq-MOST.false c.if-room-n.false

@@ -4,7 +4,7 @@ use mathlib.Core.List.{List, ◌++◌}
 use native.Mathlib.Omega.{arith}
 use Prim.Native.Nat.{ℕ, ◌+◌, ◌*◌, ◌≤◌}
 use lib.IntN.{ℤ}
-use lib.ListN.{length, take, length-append, length-take}
+use lib.ListN.{length, take, drop, length-append, length-take}
 use lib.Seq.{take_at}
 use Rattle.plane.specs.declared.Corner.{Corner}
 use Rattle.plane.specs.Vector.{coordinates}
@@ -42,14 +42,17 @@ slice_bounds-result-end-2 c =
     reaches _ _ _ c.count.ensures _ c.write_with.ensures
 
 pub slice_bounds-check_shape-end : goal.slice_bounds-check_shape-end
-slice_bounds-check_shape-end c = rw length-take (omega (arith, slice_bounds-result-end-2 c))
+slice_bounds-check_shape-end c =
+    let rest = drop (2 * (c.count.result + 1)) c.no_numbers-result.result in
+    rw length-take (omega (arith, reaches _ c.args.k c.args.v c.count.ensures rest c.write_with.ensures))
 
 pub check_shape-requires : goal.check_shape-requires
 check_shape-requires c =
-    rw (again _ _ _ c.count.ensures _ c.write_with.ensures) (
-      omega (arith, c.requires.fewest_in_bounds, length_inserted c.args.k c.args.v (corners c.args.s.now)),
-      inserted-in-range _ _ _ c.requires.k_in_bounds c.requires.in_range c.requires.all_in_range,
-    )
+    rw (again _ _ _ c.count.ensures _ c.write_with.ensures) (record {
+      fewest_in_bounds =
+          omega (arith, c.requires.fewest_in_bounds, length_inserted c.args.k c.args.v (corners c.args.s.now));
+      all_in_range = inserted-in-range _ _ _ c.requires.k_in_bounds c.requires.in_range c.requires.all_in_range;
+    })
 
 pub returns : goal.returns
 unfolding check_result

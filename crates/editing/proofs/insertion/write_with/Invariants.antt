@@ -6,7 +6,7 @@ use Rattle.edit.specs.Insertion.{inserted}
 use Rattle.editing.proofs.insertion.write_with.Given as goal
 
 abbrev pub invariant-loop-i : goal.invariant-loop-i
-invariant-loop-i l = Writing l.initial.out-1 (inserted l.k l.v (corners l.s)) l.i l.out-1
+invariant-loop-i l = Writing l.initial.out (inserted l.k l.v (corners l.s)) l.i l.out
 
 abbrev pub decreases-loop-i : goal.decreases-loop-i
 decreases-loop-i l = suc l.n - l.i

@@ -16,6 +16,7 @@ use Rattle.outline.specs.code.Checks.{first}
 use Rattle.outline.specs.Corners.{corners}
 use Rattle.outline.specs.code.Reading.{checks, check}
 use Rattle.outline.specs.Refusal.{refusal}
+use Rattle.outline.proofs.CornersLaws.{corners-fit}
 use Rattle.outline.proofs.ChecksLaws.{append-stops, append-goes-on}
 use Rattle.edit.specs.Edit.{wrong_length}
 use Rattle.edit.specs.Removal.{without, smallest, no_such_corner, just_three}
@@ -81,6 +82,9 @@ returns-then-n-eq-SMALLEST c =
     let taken = sym c.check.ensures
     ∙ c.in_default.is in
     c.refuse-then-n-eq-SMALLEST.ensures ∙ just-three _ _ _ taken (omega arith) (omega arith)
+
+pub overflow_mul-n : goal.overflow_mul-n
+overflow_mul-n c = omega (arith, corners-fit c.args.s.now)
 
 pub returns-then-room-n : goal.returns-then-room-n
 returns-then-room-n c =
