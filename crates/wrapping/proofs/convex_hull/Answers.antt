@@ -3,14 +3,14 @@ use mathlib.Core.List.{[]}
 use mathlib.Core.Path.{◌≡◌, refl, sym, ap, ◌∙◌}
 use mathlib.Core.List.{List, ◌∷◌, ◌++◌, Memᴰ}
 use native.Mathlib.Omega.{arith}
-use Prim.Native.Nat.{ℕ, ◌≤◌, ◌<◌}
+use Prim.Native.Nat.{ℕ, ◌%◌, ◌≤◌, ◌<◌}
 use lib.IntN.{ℤ}
 use lib.ListN.{length, take, drop, length-take}
 use lib.Seq.{take_at, length-take-le}
 use Rattle.lists.proofs.FirstByLaws.{first_by-member}
 use Rattle.plane.specs.declared.Corner.{Corner}
 use Rattle.plane.specs.code.Tests.{is_lower}
-use Rattle.outline.specs.Corners.{corners, corner}
+use Rattle.outline.specs.Corners.{corners, corner, most}
 use Rattle.outline.proofs.CornersLaws.{length-corners}
 use Rattle.hull.specs.Call.{filled_up}
 use Rattle.hull.specs.code.Wrapping.{lowest, is_candidate, kept, hull_from, convex_hull}
@@ -24,6 +24,10 @@ copied : (s zs : List ℤ) {filled : List ℤ} → length s ≤ length zs → fi
 copied s zs {filled} room is =
     let same : filled ≡ s = is ∙ filled-whole (length (take (length s) zs)) s (sym (length-take-le (length s) zs room)) in
     take_at filled (drop (length s) zs) (length s) (ap length same) ∙ same
+
+-- the list of its own is long enough
+own-room : (s : List ℤ) {n : ℕ} → length s % 2 ≡ 0 → length (corners s) ≤ most → 512 ≡ n → length s ≤ n
+own-room s even fits long = omega (arith, length-corners s)
 
 taken-fits : (n : ℕ) (l s : List ℤ) → take n l ≡ s → length s ≤ length l
 taken-fits n l s is = omega (arith, length-take n l, ap length is)
@@ -51,46 +55,49 @@ unfolding convex_hull
 no-points [] hull none = record { count = refl; first = refl }
 no-points (c ∷ cs) hull none = absurd (omega arith)
 
--- what stands there after it is filled
-again : (c : tie.After-lowest) → (let s = c.args.s.now in
-    take (length s) (c.fill.new.1.0 ++ drop (length s) c.no_numbers-zs.result) ≡ s)
-again c =
-    copied _ _ (array-borrow-prefix-zs c) c.fill.ensures
-
 pub returns-then-length-eq0 : goal.returns-then-length-eq0
 returns-then-length-eq0 c = no-points _ _ (omega (arith, length-corners c.args.s.now))
 
--- the list of its own is long enough
 pub slice_bounds-zs-end : goal.slice_bounds-zs-end
 slice_bounds-zs-end c =
-    omega (arith, c.requires.s_len, c.requires.s_len_bound, length-corners c.args.s.now, c.no_numbers-zs.ensures)
+    own-room _ c.requires.s_len c.requires.s_len_bound c.no_numbers-zs.ensures
 
 pub slice_bounds-fill-end : goal.slice_bounds-fill-end
-slice_bounds-fill-end c = sym (length-take-le _ _ (slice_bounds-zs-end c))
+slice_bounds-fill-end c = sym (length-take-le _ _ (own-room _ c.requires.s_len c.requires.s_len_bound c.no_numbers-zs.ensures))
 
 pub fill-requires : goal.fill-requires
-fill-requires c = omega (arith, slice_bounds-fill-end c)
+fill-requires c =
+    omega (arith, length-take-le (length c.args.s.now) c.no_numbers-zs.result (own-room _ c.requires.s_len c.requires.s_len_bound c.no_numbers-zs.ensures))
 
 pub lowest-requires : goal.lowest-requires
 lowest-requires c =
     omega (arith, c.requires.s_len, length-corners c.args.s.now, c.if-length-eq0.false)
 
+-- what stands there after it is filled
 pub slice_bounds-zs-end-2 : goal.slice_bounds-zs-end-2
 slice_bounds-zs-end-2 c =
-    let s = c.args.s.now in
-    taken-fits (length s) (c.fill.new.1.0 ++ drop (length s) c.no_numbers-zs.result) s
-    (again c)
+    let own = own-room _ c.requires.s_len c.requires.s_len_bound c.no_numbers-zs.ensures in
+    taken-fits _ _ _ (copied _ c.no_numbers-zs.result own c.fill.ensures)
 
 pub slice_bounds-wrap-end : goal.slice_bounds-wrap-end
-slice_bounds-wrap-end c = sym (ap length (again c))
+slice_bounds-wrap-end c =
+    let own = own-room _ c.requires.s_len c.requires.s_len_bound c.no_numbers-zs.ensures in
+    sym (ap length (copied _ c.no_numbers-zs.result own c.fill.ensures))
 
 pub wrap-requires : goal.wrap-requires
 wrap-requires c =
-    rw (again c) (
-      low-member (corners c.args.s.now) (lowest-requires c c.lowest.lifetimes) c.lowest.ensures,
-      (omega (arith, c.requires.s_len_bound, c.requires.hull_len), c.requires.all_in_range),
-    )
+    let s = c.args.s.now in
+    let own = own-room _ c.requires.s_len c.requires.s_len_bound c.no_numbers-zs.ensures in
+    let some : 0 < length (corners s) = omega (arith, c.requires.s_len, length-corners s, c.if-length-eq0.false) in
+    rw (copied _ c.no_numbers-zs.result own c.fill.ensures) (record {
+      fact = low-member (corners s) some c.lowest.ensures;
+      zs_in_bounds = omega (arith, c.requires.s_len_bound, c.requires.hull_len);
+      all_in_range = c.requires.all_in_range;
+    })
 
 pub returns : goal.returns
 returns c =
-    rw (again c, from_low (corners c.args.s.now) (lowest-requires c c.lowest.lifetimes) c.lowest.ensures) at c.wrap.ensures
+    let s = c.args.s.now in
+    let own = own-room _ c.requires.s_len c.requires.s_len_bound c.no_numbers-zs.ensures in
+    let some : 0 < length (corners s) = omega (arith, c.requires.s_len, length-corners s, c.if-length-eq0.false) in
+    rw (copied _ c.no_numbers-zs.result own c.fill.ensures, from_low (corners s) some c.lowest.ensures) at c.wrap.ensures

@@ -21,17 +21,35 @@ first-room cs hull there room = let (i, below, is) = member-corner there in omeg
 
 pub put_corner-requires : goal.put_corner-requires
 put_corner-requires c =
-    first-room _ c.args.hull-1.now c.requires.fact c.requires.zs_in_bounds
+    first-room _ c.args.hull.now c.requires.fact c.requires.zs_in_bounds
 
 pub keep_candidates-left-requires : goal.keep_candidates-left-requires
 keep_candidates-left-requires c =
-    let all_in_range = start-in-range c.requires.fact c.requires.all_in_range in (c.requires.all_in_range, (all_in_range, all_in_range))
+    let start_in = start-in-range c.requires.fact c.requires.all_in_range in
+    record { all_in_range = c.requires.all_in_range; in_range = start_in; in_range_2 = start_in }
+
+pub overflow_mul-left : goal.overflow_mul-left
+overflow_mul-left c =
+    omega (arith, c.loop-left.invariant.fits, c.loop-left.invariant.long, c.keep_candidates-left.ensures.long)
+
+pub overflow_mul-left-in-loop-left : goal.overflow_mul-left-in-loop-left
+overflow_mul-left-in-loop-left c =
+    omega (arith, c.loop-left.invariant.fits, c.loop-left.invariant.long, c.keep_candidates-left.ensures.long)
+
+pub overflow_add-count : goal.overflow_add-count
+overflow_add-count c =
+    omega (
+      arith,
+      wrap-room c.loop-left.invariant c.loop-left-test.true
+          (keeps-room c.keep_candidates-left.ensures c.requires.fact c.args.hull.now _ c.requires.zs_in_bounds
+          c.put_corner.ensures),
+    )
 
 pub loop-left-init : goal.loop-left-init
 loop-left-init c =
     rw c.put_corner.ensures
-    (wrap-start c.args.hull-1.now c.keep_candidates-left.ensures c.requires.all_in_range
-    (start-in-range c.requires.fact c.requires.all_in_range) (first-room _ c.args.hull-1.now c.requires.fact c.requires.zs_in_bounds))
+    (wrap-start c.args.hull.now c.keep_candidates-left.ensures c.requires.all_in_range
+    (start-in-range c.requires.fact c.requires.all_in_range) (first-room _ c.args.hull.now c.requires.fact c.requires.zs_in_bounds))
 
 pub slice_bounds-foremost-end : goal.slice_bounds-foremost-end
 slice_bounds-foremost-end c = c.loop-left.invariant.fits
@@ -42,12 +60,16 @@ slice_bounds-foremost-end-in-loop-left c = rw length-take (omega (arith, c.loop-
 pub foremost-last-requires : goal.foremost-last-requires
 foremost-last-requires c =
     let inv = c.loop-left.invariant in
-    (omega (arith, part_count c.loop-left.zs-1 c.loop-left.left inv.fits), (inv.all_in_range, inv.last_in_range))
+    record {
+      nonzero = omega (arith, part_count c.loop-left.zs c.loop-left.left inv.fits);
+      all_in_range = inv.all_in_range;
+      in_range = inv.last_in_range;
+    }
 
 pub put_corner-requires-in-loop-left : goal.put_corner-requires-in-loop-left
 put_corner-requires-in-loop-left c =
     wrap-room c.loop-left.invariant c.loop-left-test.true
-    (keeps-room c.keep_candidates-left.ensures c.requires.fact c.args.hull-1.now _ c.requires.zs_in_bounds
+    (keeps-room c.keep_candidates-left.ensures c.requires.fact c.args.hull.now _ c.requires.zs_in_bounds
     c.put_corner.ensures)
 
 pub slice_bounds-keep_candidates-end : goal.slice_bounds-keep_candidates-end
@@ -59,13 +81,11 @@ slice_bounds-keep_candidates-end-in-loop-left c =
 
 pub keep_candidates-left-requires-in-loop-left : goal.keep_candidates-left-requires-in-loop-left
 keep_candidates-left-requires-in-loop-left c =
-    (
-      c.loop-left.invariant.all_in_range,
-      (
-        start-in-range c.requires.fact c.requires.all_in_range,
-        next-in-range c.loop-left.invariant c.loop-left-test.true c.foremost-last.ensures,
-      ),
-    )
+    record {
+      all_in_range = c.loop-left.invariant.all_in_range;
+      in_range = start-in-range c.requires.fact c.requires.all_in_range;
+      in_range_2 = next-in-range c.loop-left.invariant c.loop-left-test.true c.foremost-last.ensures;
+    }
 
 pub loop-left-smaller : goal.loop-left-smaller
 loop-left-smaller c =
@@ -76,12 +96,15 @@ pub loop-left-preserved : goal.loop-left-preserved
 loop-left-preserved c =
     rw c.put_corner-in-loop-left.ensures
     (wrap-next c.loop-left.invariant c.loop-left-test.true c.foremost-last.ensures
-    c.keep_candidates-left-in-loop-left.ensures (put_corner-requires-in-loop-left c c.put_corner-in-loop-left.lifetimes))
+    c.keep_candidates-left-in-loop-left.ensures
+    (wrap-room c.loop-left.invariant c.loop-left-test.true
+    (keeps-room c.keep_candidates-left.ensures c.requires.fact c.args.hull.now _ c.requires.zs_in_bounds
+    c.put_corner.ensures)))
 
 pub returns : goal.returns
 returns c =
     rw (keeps-part c.keep_candidates-left.ensures) at
     (wrap-end c.loop-left.invariant c.loop-left-test.false
-    (keeps-room c.keep_candidates-left.ensures c.requires.fact c.args.hull-1.now _ c.requires.zs_in_bounds
+    (keeps-room c.keep_candidates-left.ensures c.requires.fact c.args.hull.now _ c.requires.zs_in_bounds
     c.put_corner.ensures)
     (part_count _ _ (keeps-fits c.keep_candidates-left.ensures)))

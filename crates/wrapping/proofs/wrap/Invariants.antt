@@ -3,7 +3,7 @@ use Rattle.wrapping.proofs.WrapLaws.{Wrapping}
 use Rattle.wrapping.proofs.wrap.Given as goal
 
 abbrev pub invariant-loop-left : goal.invariant-loop-left
-invariant-loop-left l = Wrapping l.s l.initial.zs-1 l.initial.hull-1 l.initial.left l.zs-1 l.hull-1 l.count l.last l.left
+invariant-loop-left l = Wrapping l.s l.initial.zs l.initial.hull l.initial.left l.zs l.hull l.count l.last l.left
 
 abbrev pub decreases-loop-left : goal.decreases-loop-left
 decreases-loop-left l = l.left

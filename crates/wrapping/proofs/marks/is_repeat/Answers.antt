@@ -4,7 +4,7 @@ use mathlib.Core.Path.{sym, ◌∙◌}
 use native.Mathlib.Omega.{arith}
 use Rattle.integers.proofs.Reflect.{test-false}
 use Rattle.plane.proofs.Tests.{same_true}
-use Rattle.outline.specs.Corners.{corners, corner}
+use Rattle.outline.specs.Corners.{corners}
 use Rattle.hull.proofs.MarksLaws.{repeat-true}
 use Rattle.wrapping.proofs.marks.is_repeat.Goals as goal
 

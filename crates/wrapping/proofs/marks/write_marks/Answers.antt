@@ -16,7 +16,10 @@ loop-i-init c = fill_start (omega (arith, c.requires.out_len, marks-length (corn
 
 pub mark-requires : goal.mark-requires
 mark-requires c =
-    (omega (arith, fill-length c.loop-i.invariant, c.requires.out_len), c.requires.hull_len_bound)
+    record {
+      i_in_bounds = omega (arith, fill-length c.loop-i.invariant, c.requires.out_len);
+      hull_len_bound = c.requires.hull_len_bound;
+    }
 
 pub loop-i-smaller : goal.loop-i-smaller
 loop-i-smaller c = omega (arith, fill-length c.loop-i.invariant)

@@ -43,13 +43,22 @@ module _ (p z q : Corner) {run : Vector} (from : run ≡ p ⇀ q) {right : Bool}
 
 pub is_right-requires : goal.is_right-requires
 is_right-requires c =
-    (span-difference c.difference-run.ensures c.requires.in_range c.requires.in_range_3, (c.requires.in_range, c.requires.in_range_2))
+    record {
+      span = span-difference c.difference-run.ensures c.requires.in_range c.requires.in_range_3;
+      in_range = c.requires.in_range;
+      in_range_2 = c.requires.in_range_2;
+    }
 
 pub returns-then-is_right : goal.returns-then-is_right
 returns-then-is_right c = before _ _ _ c.difference-run.ensures c.is_right.ensures c.if-is_right.true
 
 pub is_left-requires : goal.is_left-requires
-is_left-requires c = is_right-requires c κs
+is_left-requires c =
+    record {
+      span = span-difference c.difference-run.ensures c.requires.in_range c.requires.in_range_3;
+      in_range = c.requires.in_range;
+      in_range_2 = c.requires.in_range_2;
+    }
 
 pub returns-then-is_left : goal.returns-then-is_left
 returns-then-is_left c =
@@ -58,10 +67,10 @@ returns-then-is_left c =
 
 pub is_longer-requires : goal.is_longer-requires
 is_longer-requires c =
-    (
-      (is_right-requires c κs).0,
-      span-difference c.difference.ensures c.requires.in_range c.requires.in_range_2,
-    )
+    record {
+      span = span-difference c.difference-run.ensures c.requires.in_range c.requires.in_range_3;
+      span_2 = span-difference c.difference.ensures c.requires.in_range c.requires.in_range_2;
+    }
 
 pub returns : goal.returns
 returns c =

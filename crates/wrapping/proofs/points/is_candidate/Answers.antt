@@ -24,7 +24,11 @@ returns-then-same c = from_start _ _ _ c.same.ensures c.same-then-same.ensures c
 
 pub is_left-requires : goal.is_left-requires
 is_left-requires c =
-    (span-difference c.difference.ensures c.requires.in_range c.requires.in_range_2, (c.requires.in_range, c.requires.in_range_3))
+    record {
+      span = span-difference c.difference.ensures c.requires.in_range c.requires.in_range_2;
+      in_range = c.requires.in_range;
+      in_range_2 = c.requires.in_range_3;
+    }
 
 pub returns : goal.returns
 returns c =

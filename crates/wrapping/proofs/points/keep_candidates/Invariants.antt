@@ -8,7 +8,7 @@ use Rattle.wrapping.proofs.KeepingLaws.{Keeping}
 use Rattle.wrapping.proofs.points.keep_candidates.Given as goal
 
 abbrev pub invariant-loop-i : goal.invariant-loop-i
-invariant-loop-i l = (l.n ≡ length (corners l.initial.zs-1)) × Keeping (is_candidate l.s l.p) l.initial.zs-1 l.i l.left l.zs-1
+invariant-loop-i l = (l.n ≡ length (corners l.initial.zs)) × Keeping (is_candidate l.s l.p) l.initial.zs l.i l.left l.zs
 
 abbrev pub decreases-loop-i : goal.decreases-loop-i
 decreases-loop-i l = l.n - l.i

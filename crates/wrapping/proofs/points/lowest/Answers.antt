@@ -1,9 +1,9 @@
 -- `wrapping::points::lowest` passes over the points and keeps the first, from the lowest on.
-use mathlib.Core.Logic.{⊎_elim}
 use native.Mathlib.Omega.{arith}
 use Rattle.lists.proofs.FirstByLaws.{choose-start, choose-take, choose-keep, choose-end}
 use Rattle.plane.specs.code.Tests.{is_lower}
 use Rattle.outline.specs.Corners.{origin}
+use Rattle.wrapping.proofs.points.lowest.Goals.{then-is_lower, else-is_lower}
 use Rattle.wrapping.proofs.points.lowest.Goals as goal
 
 pub loop-i-init : goal.loop-i-init
@@ -17,10 +17,10 @@ pub loop-i-preserved : goal.loop-i-preserved
 loop-i-preserved c =
     let (counted, choosing) = c.loop-i.invariant in
     let below = rw counted at c.loop-i-test.true in
-    ⊎_elim
-    (λ w. (counted, rw w.1 (choose-take is_lower origin _ below choosing c.corner-next.ensures (rw c.is_lower.ensures at w.0.taken))))
-    (λ w. (counted, rw w.1 (choose-keep is_lower origin _ below choosing c.corner-next.ensures (rw c.is_lower.ensures at w.0.left))))
-    c.if-is_lower.branch
+    elim c.if-is_lower.branch [
+      | then-is_lower w ↦ (counted, rw w.found-is (choose-take is_lower origin _ below choosing c.corner-next.ensures (rw c.is_lower.ensures at w.if-is_lower.true)))
+      | else-is_lower w ↦ (counted, rw w.found-is (choose-keep is_lower origin _ below choosing c.corner-next.ensures (rw c.is_lower.ensures at w.if-is_lower.false)))
+    ]
 
 pub returns : goal.returns
 returns c =
