@@ -37,7 +37,6 @@ use Rattle.outline.specs.declared.Refusal.{Refusal}
 use Rattle.outline.specs.declared.RefusedSide.TheVariants.{Of}
 use Rattle.outline.specs.declared.Side.TheVariants.{A, B}
 use Rattle.outline.specs.declared.Verdict.{Verdict}
-use Rattle.outline.specs.declared.Verdict.TheVariants as Verdict
 use Rattle.outline.specs.Conditions.{either_conditions}
 use Rattle.outline.specs.Convex.{Accepted}
 use Rattle.outline.specs.Corners.{corners}
@@ -54,9 +53,7 @@ use Rattle.outline.proofs.ConditionLaws.{decide-append, none-append, fault-appen
 use Rattle.hausdorff.specs.declared.Done.{Done}
 use Rattle.hausdorff.specs.declared.Spent.{Spent}
 use Rattle.hausdorff.specs.declared.Report.{Report}
-use Rattle.hausdorff.specs.declared.Report.TheVariants as Report
 use Rattle.hausdorff.specs.declared.PairVerdict.{PairVerdict}
-use Rattle.hausdorff.specs.declared.PairVerdict.TheVariants as PairVerdict
 use Rattle.hausdorff.specs.declared.Comparison.{Comparison}
 use Rattle.hausdorff.specs.declared.Comparison.TheVariants.{Refused, Reported}
 use Rattle.hausdorff.specs.Pair.{both, both_orientations}

@@ -29,11 +29,10 @@ use Rattle.outline.specs.code.Polygon.{Polygon}
 use Rattle.outline.specs.Corners.{corner, next, previous, edge}
 use Rattle.outline.proofs.CornersLaws.{next-below, previous-below, next-previous, previous-next}
 use Rattle.nearest.specs.declared.Feature.{Feature}
-use Rattle.nearest.specs.declared.Feature.TheVariants as Feature
 use Rattle.nearest.specs.Feature.{values}
 use Rattle.nearest.specs.Piece.{Outside}
 use Rattle.nearest.specs.code.Local.{Tested, feature, nearest}
-use Rattle.nearest.specs.Nearest.{Nearest, Fits, Between, Answers}
+use Rattle.nearest.specs.Nearest.{Nearest, Fits, Between}
 use Rattle.nearest.proofs.AnswerLaws.{feature-tested, values-feature, tested-answers, nearest-is}
 use Rattle.nearest.proofs.NearestLaws.{nearest-unique}
 use Rattle.nearest.proofs.FitsLaws.{fits-unique}

@@ -28,7 +28,6 @@ use Rattle.plane.proofs.Points.{PointE, whole_e, ◌⇢E◌, whole-proper}
 use Rattle.outline.specs.code.Polygon.{Polygon}
 use Rattle.outline.specs.Corners.{corner, edge}
 use Rattle.nearest.specs.declared.Feature.{Feature}
-use Rattle.nearest.specs.declared.Feature.TheVariants as Feature
 use Rattle.nearest.specs.Feature.{foot_on, values}
 use Rattle.nearest.specs.code.Local.{Tested, nearest, feature}
 use Rattle.nearest.specs.Nearest.{Nearest}

@@ -29,7 +29,6 @@ use Rattle.outline.specs.code.Polygon.{Polygon}
 use Rattle.outline.specs.Corners.{corner, next, previous, edge}
 use Rattle.outline.proofs.CornersLaws.{next-below, previous-below, next-previous, previous-next}
 use Rattle.nearest.specs.declared.Feature.{Feature}
-use Rattle.nearest.specs.declared.Feature.TheVariants as Feature
 use Rattle.nearest.proofs.Support.{turns-left, corner-in-piece, corner-cone, turns-on}
 
 pub record ExtremeCorner (cs : List Corner) (u : Vector) (i : ℕ) : Type 0 where

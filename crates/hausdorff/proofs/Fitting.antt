@@ -30,7 +30,6 @@ use Rattle.outline.proofs.CornersLaws.{next-below}
 use Rattle.outline.proofs.EitherLaws.{accepted-held}
 use Rattle.outline.proofs.OrientationLaws.{given_below, held-length}
 use Rattle.nearest.specs.declared.Feature.{Feature}
-use Rattle.nearest.specs.declared.Feature.TheVariants as Feature
 use Rattle.nearest.specs.declared.NearestPoint.{NearestPoint}
 use Rattle.nearest.specs.declared.NearestAnswer.TheVariants.{Found}
 use Rattle.nearest.specs.code.Call.{nearest_answer}
@@ -49,7 +48,6 @@ use Rattle.outline.specs.declared.Side.TheVariants.{A, B}
 use Rattle.hausdorff.specs.declared.Spent.{Spent}
 use Rattle.hausdorff.specs.declared.Done.{Done}
 use Rattle.hausdorff.specs.declared.Report.{Report}
-use Rattle.hausdorff.specs.declared.Report.TheVariants as Report
 use Rattle.hausdorff.specs.declared.Comparison.TheVariants.{Reported}
 use Rattle.hausdorff.specs.Pair.{Pair, Orientations, given, other}
 use Rattle.hausdorff.specs.code.Pair.{AcceptedPair}

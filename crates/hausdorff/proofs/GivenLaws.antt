@@ -26,10 +26,7 @@ use Rattle.nearest.proofs.GivenLaws.{given-nearest-held, given-nearest-twice, an
 use Rattle.hausdorff.specs.declared.CornerGap.{CornerGap}
 use Rattle.hausdorff.specs.declared.WorstSoFar.{WorstSoFar}
 use Rattle.hausdorff.specs.declared.WorstSoFar.TheVariants.{None, Worst}
-use Rattle.hausdorff.specs.declared.Spent.{Spent}
-use Rattle.hausdorff.specs.declared.Done.{Done}
 use Rattle.hausdorff.specs.declared.Report.{Report}
-use Rattle.hausdorff.specs.declared.Report.TheVariants as Report
 use Rattle.hausdorff.specs.declared.Comparison.TheVariants.{Reported}
 use Rattle.hausdorff.specs.Pair.{Pair, both, Orientations, both_orientations, given, other}
 use Rattle.hausdorff.specs.CornerGap.{with_corner, nearest_of}

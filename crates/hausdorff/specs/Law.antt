@@ -15,7 +15,6 @@ use Rattle.hausdorff.specs.declared.WorstSoFar.TheVariants.{None, Worst}
 use Rattle.hausdorff.specs.declared.Spent.{Spent}
 use Rattle.hausdorff.specs.declared.Done.{Done}
 use Rattle.hausdorff.specs.declared.Report.{Report}
-use Rattle.hausdorff.specs.declared.Report.TheVariants as Report
 use Rattle.hausdorff.specs.Pair.{Pair, Orientations, other, step_count}
 use Rattle.hausdorff.specs.CornerGap.{with_corner, worse, overall}
 use Rattle.hausdorff.specs.Answer.{IsAnswer, IsSideAnswer, TrueFigure}

@@ -23,7 +23,7 @@ use native.Mathlib.Omega.{arith}
 use borrow.Author.Tests.{lt-ltb, le-ltb}
 use mathlib.Core.Path.{◌≡◌, refl, sym, ap, ◌∙◌}
 use mathlib.Core.Logic.Iff
-use mathlib.Core.Logic.{◌↔◌, ◌⊎◌, inl, inr, ⊎_elim}
+use mathlib.Core.Logic.{◌↔◌, inl, inr, ⊎_elim}
 use mathlib.Core.List.{List, [], ◌∷◌}
 use lib.Dec.{eqb}
 use lib.IntN.{ℤ, pos}
@@ -36,7 +36,6 @@ use Rattle.outline.specs.declared.Place.TheVariants.{Nowhere}
 use Rattle.outline.specs.declared.Refusal.{Refusal}
 use Rattle.outline.specs.declared.RefusedSide.TheVariants.{NoSide}
 use Rattle.outline.specs.declared.Verdict.{Verdict}
-use Rattle.outline.specs.declared.Verdict.TheVariants as Verdict
 use Rattle.outline.specs.code.Polygon.{Polygon}
 use Rattle.outline.specs.Conditions.{AcceptedList}
 use Rattle.outline.specs.Corners.{corners, fewest, most}

@@ -33,7 +33,6 @@ use Rattle.nearest.proofs.Rotation.{starting_at}
 use Rattle.nearest.proofs.Reversal.{opposite, SameCycle, held_start, held-reversal, accepted-start, accepted-reversal}
 use Rattle.hausdorff.specs.declared.Comparison.TheVariants as Comparison
 use Rattle.hausdorff.specs.declared.PairVerdict.{PairVerdict}
-use Rattle.hausdorff.specs.declared.PairVerdict.TheVariants as PairVerdict
 use Rattle.hausdorff.specs.declared.CornerGap.{CornerGap}
 use Rattle.hausdorff.specs.Answer.{IsGap}
 use Rattle.hausdorff.specs.Call.{pair_conditions, held_pair}

@@ -32,7 +32,6 @@ use Rattle.outline.specs.declared.Orientation.TheVariants.{Counterclockwise}
 use Rattle.outline.specs.declared.Refusal.{Refusal}
 use Rattle.outline.specs.declared.RefusedSide.TheVariants.{NoSide}
 use Rattle.outline.specs.declared.Verdict.{Verdict}
-use Rattle.outline.specs.declared.Verdict.TheVariants as Verdict
 use Rattle.outline.specs.code.Checks.{first}
 use Rattle.outline.specs.code.Reading.{check_point}
 use Rattle.outline.specs.Conditions.{either_conditions, point_out_of_range, AcceptedList}

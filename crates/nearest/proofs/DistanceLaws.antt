@@ -7,7 +7,7 @@
 --     gap-order-strict    and less exactly where its point is nearer
 --     squared_distance-is  `squared_distance` is that of two points with lower numbers above 0
 --     distance-same       fractions that are the squared distance of the same points are equal as values
-use Prim.Native.Nat.{◌*◌, ◌<◌, ◌≤◌}
+use Prim.Native.Nat.{◌*◌, ◌<◌}
 use native.Mathlib.Nat.{le_antisymm, lt_of_not-le, not-le_of_lt}
 use mathlib.Core.Path.{◌≡◌, ap, ◌∙◌}
 use mathlib.Core.Logic.Iff
@@ -34,7 +34,6 @@ use Rattle.plane.proofs.Points.{NotFarther, Nearer, PointE, whole_e, ◌⇢E◌,
 use Rattle.outline.specs.code.Polygon.{Polygon}
 use Rattle.outline.specs.Corners.{corner, edge}
 use Rattle.nearest.specs.declared.Feature.{Feature}
-use Rattle.nearest.specs.declared.Feature.TheVariants as Feature
 use Rattle.nearest.specs.Feature.{values}
 use Rattle.outline.proofs.EdgeLaws.{lower-above-0}
 

@@ -24,7 +24,6 @@ use Rattle.outline.specs.code.Polygon.{Polygon}
 use Rattle.outline.specs.Corners.{corner, next, edge}
 use Rattle.outline.proofs.CornersLaws.{next-below, next-other, next-next-other}
 use Rattle.nearest.specs.declared.Feature.{Feature}
-use Rattle.nearest.specs.declared.Feature.TheVariants as Feature
 use Rattle.nearest.specs.Piece.{side_of}
 use Rattle.nearest.specs.Nearest.{Fits, Between}
 use Rattle.nearest.proofs.Support.{corner-in-piece}

@@ -25,7 +25,6 @@ use Rattle.outline.specs.Convex.{Accepted}
 use Rattle.outline.specs.Corners.{corner, edge}
 use Rattle.outline.proofs.EdgeLaws.{accepted-polygon, lower-above-0, length-size}
 use Rattle.nearest.specs.declared.Feature.{Feature}
-use Rattle.nearest.specs.declared.Feature.TheVariants as Feature
 use Rattle.nearest.specs.declared.NearestPoint.{NearestPoint}
 use Rattle.nearest.specs.Feature.{edge_gap, values}
 use Rattle.nearest.specs.Nearest.{Answers}

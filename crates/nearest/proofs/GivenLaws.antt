@@ -15,7 +15,6 @@ use Rattle.outline.specs.declared.Orientation.TheVariants.{Counterclockwise}
 use Rattle.outline.specs.Orientation.{given_corner}
 use Rattle.outline.proofs.OrientationLaws.{given_below, given-twice, edge-below, edge-twice}
 use Rattle.nearest.specs.declared.Feature.{Feature}
-use Rattle.nearest.specs.declared.Feature.TheVariants as Feature
 use Rattle.nearest.specs.declared.NearestPoint.{NearestPoint}
 use Rattle.nearest.specs.Given.{given_feature, given_nearest}
 use Rattle.nearest.specs.Nearest.{Fits, Answers}

@@ -14,7 +14,6 @@ use Rattle.outline.specs.code.Polygon.{Polygon}
 use Rattle.outline.specs.Corners.{corner, next, previous}
 use Rattle.outline.proofs.CornersLaws.{next-below, next-previous, previous-below, previous-next}
 use Rattle.nearest.specs.declared.Feature.{Feature}
-use Rattle.nearest.specs.declared.Feature.TheVariants as Feature
 use Rattle.nearest.specs.Feature.{values}
 use Rattle.nearest.specs.code.Local.{is_corner, is_edge, Tested, feature, nearest}
 use Rattle.nearest.proofs.AnswerLaws.{feature-tested, feature-iff}

@@ -11,7 +11,7 @@
 --     one-nearest         and only one nearest point
 use Prim.Native.Nat.{ℕ, ◌*◌}
 use native.Mathlib.Nat.{one-mul}
-use mathlib.Core.Path.{◌≡◌, refl, sym, ap, ◌∙◌}
+use mathlib.Core.Path.{◌≡◌, sym, ap, ◌∙◌}
 use mathlib.Core.Logic.{◌↔◌}
 use mathlib.Core.List.{List, [], ◌∷◌, ◌++◌}
 use lib.IntN.{ℤ, pos, ◌-ℤ◌, ◌*ℤ◌, *ℤ-zero, *ℤ_comm}
@@ -34,7 +34,6 @@ use Rattle.outline.specs.Convex.{StrictlyConvex}
 use Rattle.outline.specs.Corners.{corner, next, origin}
 use Rattle.nearest.specs.Piece.{side_of, InPiece}
 use Rattle.nearest.specs.declared.Feature.{Feature}
-use Rattle.nearest.specs.declared.Feature.TheVariants as Feature
 use Rattle.nearest.specs.declared.NearestPoint.{NearestPoint}
 use Rattle.nearest.specs.code.Local.{nearest}
 use Rattle.nearest.specs.code.Scaling.{scaled, enlarged, shrunk, over, numerator, nearest_at}

@@ -8,14 +8,14 @@
 --     no-better             every candidate other than the nearest has a greater gap
 --     least-any-order       the least of any list of what is tried, in any order and with repeats, is the nearest
 --     search-nearest        the search finds the nearest
-use Prim.Native.Nat.{ℕ, zero, suc, ◌<◌, ◌*◌}
-use native.Mathlib.Nat.{eq-or-lt_of_le, le_of_lt, le_of_suc-le-suc}
+use Prim.Native.Nat.{◌<◌, ◌*◌}
+use native.Mathlib.Nat.{le_of_lt}
 use native.Mathlib.Omega.{arith}
 use mathlib.Core.Path.{◌≡◌, refl, sym, ap}
 use mathlib.Core.Logic.{◌↔◌, ◌⊎◌, inl, inr, ⊎_elim}
 use mathlib.Core.Bool.{Bool, true, false, cond}
 use mathlib.Core.List.Memᴰ
-use mathlib.Core.List.{List, [], ◌∷◌, ◌++◌, Memᴰ}
+use mathlib.Core.List.{List, [], ◌∷◌, Memᴰ}
 use borrow.Author.Tests.{lt-ltb, le-ltb}
 use lib.ListN.{length}
 use Rattle.lists.proofs.FoldLaws.{joined-member}
@@ -25,7 +25,6 @@ use Rattle.plane.proofs.Points.{whole-proper, same_refl, same?}
 use Rattle.outline.specs.code.Polygon.{Polygon}
 use Rattle.outline.specs.Corners.{corner}
 use Rattle.nearest.specs.declared.Feature.{Feature}
-use Rattle.nearest.specs.declared.Feature.TheVariants as Feature
 use Rattle.nearest.specs.declared.NearestPoint.{NearestPoint}
 use Rattle.nearest.specs.Piece.{InPiece, Outside, is_outside}
 use Rattle.nearest.specs.Feature.{values, within_values}

@@ -10,7 +10,6 @@
 --                              than to the corner
 --     back                     the mirror, from the start of the edge out of a corner to that of the edge into it
 --     square-at-start, square-at-end    where the foot of v on an edge is an end, the test of that corner holds
-use Prim.Native.Nat.{◌<◌}
 use mathlib.Core.Path.{◌≡◌}
 use mathlib.Core.Logic.{◌↔◌, ◌≢◌, ◌⊎◌, inl, inr, ⊎_elim}
 use mathlib.Core.Bool.{true, false}

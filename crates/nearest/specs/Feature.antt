@@ -9,7 +9,6 @@ use Rattle.plane.specs.Point.{whole}
 use Rattle.plane.specs.Vector.{◌⇀◌, cross, dot}
 use Rattle.outline.specs.Corners.{corner, next}
 use Rattle.nearest.specs.declared.Feature.{Feature}
-use Rattle.nearest.specs.declared.Feature.TheVariants as Feature
 use Rattle.nearest.specs.declared.NearestPoint.{NearestPoint}
 
 -- within: 0/1, at v

@@ -7,7 +7,6 @@ use Rattle.plane.specs.Point.{whole, ◌⇢◌, Same, squared_distance}
 use Rattle.plane.specs.Vector.{dot}
 use Rattle.outline.specs.Corners.{corner, next, edge}
 use Rattle.nearest.specs.declared.Feature.{Feature}
-use Rattle.nearest.specs.declared.Feature.TheVariants as Feature
 use Rattle.nearest.specs.declared.NearestPoint.{NearestPoint}
 use Rattle.nearest.specs.Feature.{values}
 use Rattle.nearest.specs.Piece.{side_of, InPiece, Outside}

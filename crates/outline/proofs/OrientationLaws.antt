@@ -20,7 +20,7 @@ use mathlib.Core.List.{List, [], ◌∷◌, reverse, reverse-cons}
 use native.Mathlib.Nat.{eq-or-lt_of_le, le_of_suc-le-suc}
 use native.Mathlib.Omega.{arith}
 use lib.Arith.{digits_mod}
-use lib.IntN.{ℤ, pos}
+use lib.IntN.{pos}
 use lib.ListN.{length, length-reverse, get_or-append}
 use lib.Seq.{get_or_at}
 use lib.Signed.{◌<ℤ◌, <ℤ_irrefl}

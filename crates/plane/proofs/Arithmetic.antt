@@ -9,7 +9,7 @@
 --     cross-local, dot-local                the same as a caller of `cross`, `dot`, `squared_length` has it in a local
 -- Every hypothesis shows its numbers, so that `search` finds it in what a need is handed.
 use mathlib.Core.Path.{◌≡◌}
-use Prim.Native.Nat.{◌+◌, ◌*◌, ◌^◌}
+use Prim.Native.Nat.{◌*◌, ◌^◌}
 use lib.IntN.{ℤ, ◌+ℤ◌, ◌-ℤ◌, ◌*ℤ◌}
 use mir.Syntax.{w32, w64}
 use mir.Val.{SFits}

@@ -5,14 +5,12 @@ use Rattle.outline.specs.declared.Orientation.{Orientation}
 use Rattle.outline.specs.declared.RefusedSide.TheVariants.{Of}
 use Rattle.outline.specs.declared.Side.TheVariants.{A, B}
 use Rattle.outline.specs.declared.Verdict.{Verdict}
-use Rattle.outline.specs.declared.Verdict.TheVariants as Verdict
 use Rattle.outline.specs.code.Checks.{first}
 use Rattle.outline.specs.code.Either.{orientation_of, either_checks}
 use Rattle.outline.specs.Corners.{corners}
 use Rattle.hausdorff.specs.declared.Comparison.{Comparison}
 use Rattle.hausdorff.specs.declared.Comparison.TheVariants.{Refused, Reported}
 use Rattle.hausdorff.specs.declared.PairVerdict.{PairVerdict}
-use Rattle.hausdorff.specs.declared.PairVerdict.TheVariants as PairVerdict
 use Rattle.hausdorff.specs.declared.Report.{Report}
 use Rattle.hausdorff.specs.Pair.{Pair, Orientations, both_orientations}
 use Rattle.hausdorff.specs.Given.{given_report}

@@ -10,7 +10,6 @@ use Rattle.hausdorff.specs.declared.CornerGap.{CornerGap}
 use Rattle.hausdorff.specs.declared.Spent.{Spent}
 use Rattle.hausdorff.specs.declared.Done.{Done}
 use Rattle.hausdorff.specs.declared.Report.{Report}
-use Rattle.hausdorff.specs.declared.Report.TheVariants as Report
 use Rattle.hausdorff.specs.Pair.{Pair, Orientations, step_count}
 use Rattle.hausdorff.specs.CornerGap.{worse}
 use Rattle.hausdorff.specs.Law.{or_within}

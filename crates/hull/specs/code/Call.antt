@@ -5,7 +5,6 @@ use Rattle.plane.specs.Vector.{coordinates}
 use Rattle.outline.specs.declared.Place.TheVariants.{Nowhere}
 use Rattle.outline.specs.declared.RefusedSide.TheVariants.{NoSide}
 use Rattle.outline.specs.declared.Verdict.{Verdict}
-use Rattle.outline.specs.declared.Verdict.TheVariants as Verdict
 use Rattle.outline.specs.code.Checks.{refuse_if, first, if_taken}
 use Rattle.outline.specs.code.Reading.{check_odd_length, check_most, check_range}
 use Rattle.outline.specs.Corners.{corners, fewest}

@@ -2,7 +2,6 @@
 -- nothing else.
 use Rattle.std.specs.Prelude.{List, ℤ}
 use Rattle.hausdorff.specs.declared.PairVerdict.{PairVerdict}
-use Rattle.hausdorff.specs.declared.PairVerdict.TheVariants as PairVerdict
 use Rattle.hausdorff.specs.Call.{held_pair}
 use Rattle.hausdorff.specs.code.Call.{check_pair}
 use Rattle.mismatch.specs.declared.MismatchAnswer.{MismatchAnswer}

@@ -3,7 +3,6 @@ use Rattle.std.specs.Prelude.{List, [], ◌∷◌, ◌++◌, ℤ, length}
 use Rattle.plane.specs.declared.Corner.{Corner}
 use Rattle.outline.specs.declared.RefusedSide.TheVariants.{NoSide}
 use Rattle.outline.specs.declared.Verdict.{Verdict}
-use Rattle.outline.specs.declared.Verdict.TheVariants as Verdict
 use Rattle.outline.specs.code.Checks.{first}
 use Rattle.outline.specs.code.Either.{orientation_of, held_corners, either_checks}
 use Rattle.outline.specs.code.Reading.{check_point}

@@ -9,7 +9,6 @@ use Rattle.plane.specs.Vector.{◌⇀◌, dot}
 use Rattle.plane.specs.code.Tests.{is_right, same}
 use Rattle.outline.specs.Corners.{corner, next, previous}
 use Rattle.nearest.specs.declared.Feature.{Feature}
-use Rattle.nearest.specs.declared.Feature.TheVariants as Feature
 use Rattle.nearest.specs.declared.NearestPoint.{NearestPoint}
 use Rattle.nearest.specs.Feature.{values}
 

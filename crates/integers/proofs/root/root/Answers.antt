@@ -1,10 +1,9 @@
 -- `integers::root::root` answers `root n`: its loop goes from guess to guess. The measure is the guess.
 use native.Mathlib.Omega.{arith}
 use mathlib.Core.Path.{refl}
-use Prim.Native.Nat.{◌+◌, ◌/◌}
 use lib.Count.{leading_le}
 use Rattle.integers.specs.code.Root.{root_by}
-use Rattle.integers.proofs.Newton.{Guess, half_length-small, guess-first, guess-next, guess-root}
+use Rattle.integers.proofs.Newton.{half_length-small, guess-first, guess-next, guess-root}
 use Rattle.integers.proofs.root.root.Goals as goal
 
 pub returns-then-n-eq0 : goal.returns-then-n-eq0
