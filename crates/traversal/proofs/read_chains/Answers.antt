@@ -6,20 +6,8 @@ use mir.Facts.{to_z-of_z}
 use Rattle.outline.specs.declared.RefusedSide.TheVariants.{Of}
 use Rattle.outline.specs.declared.Side.TheVariants.{A, B}
 use Rattle.outline.proofs.EitherLaws.{either-refused, checked-accepted}
-use Rattle.records.specs.code.Reading.{ReadsChain}
 use Rattle.records.proofs.CallLaws.{partial-fault, index-fault, corners-fault, fault-a, fault-b}
 use Rattle.traversal.proofs.read_chains.Goals as goal
-
--- what reading A's chain gives, of the index that was handed over
-chain-a : (c : tie.After-read-chain) → (let args = c.args in
-    ReadsChain (Of A) args.store.now args.a_start c.read_chain.result c.read_chain.new.1.1.1.0)
-chain-a c = rw (to_z-of_z c.ranges.a_start) at c.read_chain.ensures
-
--- and B's
-chain-b : (c : tie.After-read-chain2) → (let args = c.args in
-    ReadsChain (Of B) args.store.now args.b_start c.read_chain-2.result c.read_chain-2.new.1.1.1.0)
-chain-b c =
-    rw (to_z-of_z c.ranges.b_start) at c.read_chain-2.ensures
 
 pub returns-then-store-ne0 : goal.returns-then-store-ne0
 returns-then-store-ne0 c = partial-fault _ _ _ c.if-store-ne0.true
@@ -27,35 +15,36 @@ returns-then-store-ne0 c = partial-fault _ _ _ c.if-store-ne0.true
 pub returns-in-Refused : goal.returns-in-Refused
 returns-in-Refused c =
     fault-a _ _ _ c.if-store-ne0.false
-    (index-fault (Of A) _ _ (rw c.in-Refused.is at (chain-a c)))
+    (index-fault (Of A) _ _ (rw c.in-Refused.is at (rw (to_z-of_z c.ranges.a_start) at c.read_chain.ensures)))
 
 pub slice_bounds-check_either-end : goal.slice_bounds-check_either-end
 slice_bounds-check_either-end c =
-    let ended = rw c.in-Ended.is at (chain-a c) in
-    omega (arith, ended.at_most, c.requires.most_in_bounds, c.read_chain.auto.1.1.1.0)
+    let ended = rw c.in-Ended.is at (rw (to_z-of_z c.ranges.a_start) at c.read_chain.ensures) in
+    omega (arith, ended.at_most, c.requires.most_in_bounds, c.read_chain.auto.out)
 
 pub slice_bounds-check_either-end-in-Refused-read_chain : goal.slice_bounds-check_either-end-in-Refused-read_chain
-slice_bounds-check_either-end-in-Refused-read_chain c = rw length-take (omega (arith, slice_bounds-check_either-end c))
+slice_bounds-check_either-end-in-Refused-read_chain c =
+    let ended = rw c.in-Ended.is at (rw (to_z-of_z c.ranges.a_start) at c.read_chain.ensures) in
+    rw length-take (omega (arith, ended.at_most, c.requires.most_in_bounds, c.read_chain.auto.out))
 
 pub returns-in-Refused-check_either : goal.returns-in-Refused-check_either
 returns-in-Refused-check_either c =
-    let ended = rw c.in-Ended.is at (chain-a c) in
+    let ended = rw c.in-Ended.is at (rw (to_z-of_z c.ranges.a_start) at c.read_chain.ensures) in
     let judged = rw ended.written at c.check_either.ensures in
     fault-a _ _ _ c.if-store-ne0.false (corners-fault (Of A) _ _ ended.ends
     ((either-refused (Of A) _ _).0 (sym judged ∙ c.in-Refused-check_either.is)))
 
 pub returns-in-Ended-read_chain : goal.returns-in-Ended-read_chain
-returns-in-Ended-read_chain c =
-    (
-      c.if-store-ne0.false,
-      rw c.in-Ended.is at (chain-a c),
-      rw c.in-Ended-read_chain.is at (chain-b c),
-    )
+returns-in-Ended-read_chain c = (
+  c.if-store-ne0.false,
+  rw c.in-Ended.is at (rw (to_z-of_z c.ranges.a_start) at c.read_chain.ensures),
+  rw c.in-Ended-read_chain.is at (rw (to_z-of_z c.ranges.b_start) at c.read_chain-2.ensures),
+)
 
 pub returns-in_default : goal.returns-in_default
 returns-in_default c =
-    let ended = rw c.in-Ended.is at (chain-a c) in
+    let ended = rw c.in-Ended.is at (rw (to_z-of_z c.ranges.a_start) at c.read_chain.ensures) in
     let judged = rw ended.written at c.check_either.ensures in
     fault-b _ _ _ c.if-store-ne0.false _ ended.ends
     (checked-accepted (Of A) _ judged c.in_default.is refl)
-    (index-fault (Of B) _ _ (rw c.in-Refused-read_chain.is at (chain-b c)))
+    (index-fault (Of B) _ _ (rw c.in-Refused-read_chain.is at (rw (to_z-of_z c.ranges.b_start) at c.read_chain-2.ensures)))

@@ -11,8 +11,6 @@ use mir.Val.{SFits}
 use Rattle.records.proofs.ChainLaws.{records-fit, record-at}
 use Rattle.traversal.proofs.record_at.Goals as goal
 
-pub record-at-spec : {M : Type 1} → statement M
-
 pub overflow_mul-place : goal.overflow_mul-place
 overflow_mul-place c = omega (arith, records-fit c.args.store.now)
 

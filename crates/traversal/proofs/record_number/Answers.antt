@@ -4,8 +4,6 @@ use Rattle.integers.proofs.Machine.{field, size_fits}
 use Rattle.records.proofs.ChainLaws.{not_negative, record_number-negative, record_number-size, record_number-above}
 use Rattle.traversal.proofs.record_number.Goals as goal
 
-pub record-number-spec : {M : Type 1} → statement M
-
 pub returns-then-index-lt0 : goal.returns-then-index-lt0
 returns-then-index-lt0 c =
     record_number-negative _ _ (rw (to_z-of_z c.ranges.index) at c.if-index-lt0.true)

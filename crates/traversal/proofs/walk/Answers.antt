@@ -31,15 +31,21 @@ module _ (s : List ℤ) {z : ℤ} {i : ℕ} (fits : SFits w32 z) (is : i ≡ rec
           let (at, below) = record_number-suc (length (records s)) z (sym name ∙ is) in (j, is, at, below)
 
 pub loop-stop-init : goal.loop-stop-init
-loop-stop-init c = walk_begins c.args.store.now _ c.args.out-1.now c.requires
+loop-stop-init c = walk_begins c.args.store.now _ c.args.out.now c.requires
 
 pub returns-then-i-eq0 : goal.returns-then-i-eq0
 returns-then-i-eq0 c =
     let z-fits : SFits w32 c.loop-stop.stop.index = search sfits_of in
     let none = sym (name c.args.store.now z-fits c.record_number-i.ensures) ∙ c.if-i-eq0.true in
-    rw (to_z-of_z c.ranges.start) at (walk-done c.loop-stop.invariant (inr (record_number-zero (records c.args.store.now) _ none)))
+    let (is, written) = rw (to_z-of_z c.ranges.start) at (walk-done c.loop-stop.invariant (inr (record_number-zero (records c.args.store.now) _ none))) in
+    record { stop = is; list = written }
 
 pub record_at-record-requires : goal.record_at-record-requires
+record_at-record-requires c =
+    let z-fits : SFits w32 c.loop-stop.stop.index = search sfits_of in
+    let (j, is, at, below) =
+    name-suc c.args.store.now z-fits c.record_number-i.ensures c.if-i-eq0.false in
+    rw is below
 
 pub put_corner-requires : goal.put_corner-requires
 put_corner-requires c =
@@ -61,4 +67,6 @@ loop-stop-preserved c =
 
 pub returns : goal.returns
 returns c =
-    let inv = c.loop-stop.invariant in rw (to_z-of_z c.ranges.start) at (walk-done inv (inl (omega (arith, inv.at_most))))
+    let inv = c.loop-stop.invariant in
+    let (is, written) = rw (to_z-of_z c.ranges.start) at (walk-done inv (inl (omega (arith, inv.at_most)))) in
+    record { stop = is; list = written }
