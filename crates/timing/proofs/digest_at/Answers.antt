@@ -1,6 +1,5 @@
 -- `timing::digest_at` looks for the nearest point where the point is in range.
-use borrow.Author.Tests.{not-true, not-false}
-use mathlib.Core.Bool.{true, false, not}
+use mathlib.Core.Bool.{true, false}
 use mathlib.Core.List.{List}
 use mathlib.Core.Path.{◌≡◌}
 use Rattle.plane.specs.declared.Corner.{Corner}
@@ -11,22 +10,25 @@ use Rattle.timing.specs.Answers.{digest, digest_at}
 use Rattle.timing.proofs.digest_at.Goals as goal
 
 module _ (cs : List Corner) (v : Corner) where
-  out : not (in_range v) ≡ true → 0 ≡ digest_at cs v
+  out : in_range v ≡ false → 0 ≡ digest_at cs v
   unfolding digest_at
-  out told = rw (not-true (in_range v) told)
+  out told = rw told
 
-  all_in_range : not (in_range v) ≡ false → digest (nearest cs v) ≡ digest_at cs v
+  ranged : in_range v ≡ true → digest (nearest cs v) ≡ digest_at cs v
   unfolding digest_at
-  all_in_range told = rw (not-false (in_range v) told)
+  ranged told = rw told
 
 pub returns-then-not-in_range : goal.returns-then-not-in_range
-returns-then-not-in_range c = out _ _ (rw c.all_in_range.ensures at c.if-not-in_range.true)
+returns-then-not-in_range c = out _ _ (rw c.in_range.ensures at c.if-not-in_range.true)
 
 pub nearest-requires : goal.nearest-requires
 nearest-requires c =
-    (c.requires, (in_range-true _).0 (not-false _ (rw c.all_in_range.ensures at c.if-not-in_range.false)))
+    record {
+      accepted_as = c.requires;
+      in_range = (in_range-true _).0 (rw c.in_range.ensures at c.if-not-in_range.false);
+    }
 
 pub returns : goal.returns
 returns c =
     rw (c.digest.ensures, c.nearest.ensures)
-    (all_in_range _ _ (rw c.all_in_range.ensures at c.if-not-in_range.false))
+    (ranged _ _ (rw c.in_range.ensures at c.if-not-in_range.false))

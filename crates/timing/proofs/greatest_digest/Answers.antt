@@ -3,8 +3,7 @@ use native.Mathlib.Omega.{arith}
 use mathlib.Core.Path.{ap, ◌∙◌}
 use Rattle.lists.specs.Fold.{fold}
 use Rattle.lists.proofs.FoldLaws.{fold_start, fold_on, fold_end}
-use Rattle.outline.specs.Corners.{corner}
-use Rattle.timing.specs.Answers.{greater, digest_at}
+use Rattle.timing.specs.Answers.{greater}
 use Rattle.timing.proofs.greatest_digest.Goals as goal
 
 pub loop-i-init : goal.loop-i-init

@@ -18,10 +18,12 @@ module _ (v : Corner) (x_Fits : SFits w32 v.x) (y-fits : SFits w32 v.y) where
 
 pub returns-then-v : goal.returns-then-v
 returns-then-v c =
-    let v = c.args.v in
-    to_z-of_z (search rules) ∙ tested v (search rules) (search rules) c.if-v.true
+    let x_fits : SFits w32 c.args.v.x = search rules in
+    let y_fits : SFits w32 c.args.v.y = search rules in
+    to_z-of_z x_fits ∙ tested c.args.v x_fits y_fits c.if-v.true
 
 pub returns-else-v : goal.returns-else-v
 returns-else-v c =
-    let v = c.args.v in
-    to_z-of_z (search rules) ∙ tested v (search rules) (search rules) c.if-v.false
+    let x_fits : SFits w32 c.args.v.x = search rules in
+    let y_fits : SFits w32 c.args.v.y = search rules in
+    to_z-of_z y_fits ∙ tested c.args.v x_fits y_fits c.if-v.false

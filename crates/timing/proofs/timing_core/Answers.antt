@@ -27,7 +27,7 @@ returns-in-Refused c = refused _ _ c.check_either.ensures _ c.in-Refused.is
 pub orientation-requires : goal.orientation-requires
 orientation-requires c =
     let ok = checked-accepted _ _ c.check_either.ensures c.in_default.is refl in
-    (ok.at_least, ok.all_in_range)
+    record { fewest_in_bounds = ok.at_least; all_in_range = ok.all_in_range }
 
 pub greatest_digest-requires : goal.greatest_digest-requires
 greatest_digest-requires c =

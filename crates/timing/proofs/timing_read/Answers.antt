@@ -21,7 +21,7 @@ no_place places k past = rw (get_or-eq_default places origin past)
 
 pub returns-then-k-ge-MOST : goal.returns-then-k-ge-MOST
 returns-then-k-ge-MOST c =
-    let corners = c.read-reading.result.outline-1.corners in
+    let corners = c.read-reading.result.outline.corners in
     let places : length corners ≡ most = search length-mapped in
     rw c.read-reading.ensures at (no_place corners c.args.k (omega arith))
 
