@@ -15,12 +15,12 @@ returns-in-Refused-check_either c = search by-checks
 pub orientation-requires : goal.orientation-requires
 orientation-requires c =
     let ok = checked-accepted _ _ c.check_either.ensures c.in_default.is refl in
-    (ok.at_least, ok.all_in_range)
+    record { fewest_in_bounds = ok.at_least; all_in_range = ok.all_in_range }
 
 pub orientation-requires-2 : goal.orientation-requires-2
 orientation-requires-2 c =
     let ok = checked-accepted _ _ c.check_either-2.ensures c.in_default-check_either.is refl in
-    (ok.at_least, ok.all_in_range)
+    record { fewest_in_bounds = ok.at_least; all_in_range = ok.all_in_range }
 
 pub returns : goal.returns
 returns c = search by-checks

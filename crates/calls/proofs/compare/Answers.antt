@@ -5,14 +5,19 @@ use Rattle.calls.proofs.compare.Goals as goal
 
 pub compare-report-requires : goal.compare-report-requires
 compare-report-requires c =
-    (pair-taken _ _ _ _).0 (sym c.check_pair.ensures ∙ c.in-Taken.is)
+    let (ok-a, ok-b) = (pair-taken _ _ _ _).0 (sym c.check_pair.ensures ∙ c.in-Taken.is) in
+    record { accepted_as = ok-a; accepted_as_2 = ok-b }
 
 pub returns-in-Refused : goal.returns-in-Refused
 returns-in-Refused c =
-    call-promises _ _ _
-    (call-refused _ _ _ c.check_pair.ensures c.in-Refused.is)
+    let promised =
+      call-promises _ _ _
+      (call-refused _ _ _ c.check_pair.ensures c.in-Refused.is) in
+    record { answer = promised.0; rules = promised.1 }
 
 pub returns-in-Taken : goal.returns-in-Taken
 returns-in-Taken c =
-    call-promises _ _ _
-    (call-reported _ _ _ c.check_pair.ensures c.in-Taken.is c.compare-report.ensures)
+    let promised =
+      call-promises _ _ _
+      (call-reported _ _ _ c.check_pair.ensures c.in-Taken.is c.compare-report.ensures) in
+    record { answer = promised.0; rules = promised.1 }

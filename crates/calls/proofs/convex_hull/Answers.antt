@@ -35,53 +35,63 @@ module _ (s : List ℤ) {room places : ℕ} (may : PermittedPoints s room places
   marked : {ms : List ℤ} → ms ≡ marks (corners s) (corners (take (2 * r) l)) → ms ≡ marks (corners s) (convex_hull (corners s))
   marked is = rw (wraps-corners wraps) at is
 
--- the checks take the points
-permitted : (c : tie.After-convex-hull) → (let args = c.args in
-    PermittedPoints args.s.now (length args.out-1.now) (length args.marks-1.now))
-permitted c =
-    points-permit _ _ _ c.check_points.ensures
-    c.in_default.is
-
 pub returns-in-Refused : goal.returns-in-Refused
 returns-in-Refused c =
-    refused-promises _ _ _ (points-refused _ _ _ c.check_points.ensures c.in-Refused.is)
+    let promised =
+      refused-promises _ _ _ (points-refused _ _ _ c.check_points.ensures c.in-Refused.is) in
+    record { answer = promised.0; list = promised.1.0; marked = promised.1.1.0; rules = promised.1.1.1 }
 
 pub convex_hull-count-requires : goal.convex_hull-count-requires
 convex_hull-count-requires c =
     let may = points-permit _ _ _ c.check_points.ensures
     c.in_default.is in
-    (may.even, (may.at_most, (may.all_in_range, sym c.no_numbers-hull.ensures)))
+    record { s_len = may.even; s_len_bound = may.at_most; all_in_range = may.all_in_range; hull_len = sym c.no_numbers-hull.ensures }
 
 pub returns-then-count-lt-FEWEST : goal.returns-then-count-lt-FEWEST
 returns-then-count-lt-FEWEST c =
-    refused-promises _ _ _ (points-short _ _ _ c.check_points.ensures
-    c.in_default.is c.convex_hull-count.ensures.count c.if-count-lt-FEWEST.true)
+    let promised =
+      refused-promises _ _ _ (points-short _ _ _ c.check_points.ensures
+      c.in_default.is c.convex_hull-count.ensures.count c.if-count-lt-FEWEST.true) in
+    record { answer = promised.0; list = promised.1.0; marked = promised.1.1.0; rules = promised.1.1.1 }
+
+pub overflow_mul-hull : goal.overflow_mul-hull
+overflow_mul-hull c =
+    let may = points-permit _ _ _ c.check_points.ensures c.in_default.is in
+    omega (arith, c.convex_hull-count.ensures.count, hull-length (corners c.args.s.now), may.at_most)
+
+pub overflow_mul-hull-2 : goal.overflow_mul-hull-2
+overflow_mul-hull-2 c =
+    let may = points-permit _ _ _ c.check_points.ensures c.in_default.is in
+    omega (arith, c.convex_hull-count.ensures.count, hull-length (corners c.args.s.now), may.at_most)
 
 pub slice_bounds-hull-end : goal.slice_bounds-hull-end
 slice_bounds-hull-end c = wraps-fits c.convex_hull-count.ensures
 
 pub slice_bounds-fill-end : goal.slice_bounds-fill-end
-slice_bounds-fill-end c = sym (length-take-le _ _ (slice_bounds-hull-end c))
+slice_bounds-fill-end c = sym (length-take-le _ _ (wraps-fits c.convex_hull-count.ensures))
 
 pub fill-requires : goal.fill-requires
 fill-requires c =
-    part-fits _ (permitted c) c.convex_hull-count.ensures
+    part-fits _ (points-permit _ _ _ c.check_points.ensures c.in_default.is) c.convex_hull-count.ensures
 
 pub slice_bounds-hull-end-2 : goal.slice_bounds-hull-end-2
-slice_bounds-hull-end-2 c = slice_bounds-hull-end c
+slice_bounds-hull-end-2 c = wraps-fits c.convex_hull-count.ensures
 
 pub slice_bounds-write_marks-end : goal.slice_bounds-write_marks-end
-slice_bounds-write_marks-end c = slice_bounds-fill-end c
+slice_bounds-write_marks-end c = sym (length-take-le _ _ (wraps-fits c.convex_hull-count.ensures))
 
 pub write_marks-requires : goal.write_marks-requires
 write_marks-requires c =
-    ((permitted c).marks_long, few _ (permitted c) c.convex_hull-count.ensures)
+    let may = points-permit _ _ _ c.check_points.ensures c.in_default.is in
+    record { out_len = may.marks_long; hull_len_bound = few _ may c.convex_hull-count.ensures }
 
 pub returns : goal.returns
 returns c =
-    let may = permitted c in
-    made-promises _ _ _ (points-made _ _ _ c.check_points.ensures
-    c.in_default.is c.convex_hull-count.ensures.count
-    c.if-count-lt-FEWEST.false)
-    c.convex_hull-count.ensures.count (written _ may c.convex_hull-count.ensures c.fill.ensures)
-    (marked _ may c.convex_hull-count.ensures c.write_marks.ensures)
+    let may = points-permit _ _ _ c.check_points.ensures c.in_default.is in
+    let promised =
+      made-promises _ _ _ (points-made _ _ _ c.check_points.ensures
+      c.in_default.is c.convex_hull-count.ensures.count
+      c.if-count-lt-FEWEST.false)
+      c.convex_hull-count.ensures.count (written _ may c.convex_hull-count.ensures c.fill.ensures)
+      (marked _ may c.convex_hull-count.ensures c.write_marks.ensures) in
+    record { answer = promised.0; list = promised.1.0; marked = promised.1.1.0; rules = promised.1.1.1 }

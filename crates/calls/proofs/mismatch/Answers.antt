@@ -6,14 +6,19 @@ use Rattle.calls.proofs.mismatch.Goals as goal
 
 pub mismatch_sum-sum-requires : goal.mismatch_sum-sum-requires
 mismatch_sum-sum-requires c =
-    (pair-taken _ _ _ _).0 (sym c.check_pair.ensures ∙ c.in-Taken.is)
+    let (ok-a, ok-b) = (pair-taken _ _ _ _).0 (sym c.check_pair.ensures ∙ c.in-Taken.is) in
+    record { accepted_as = ok-a; accepted_as_2 = ok-b }
 
 pub returns-in-Refused : goal.returns-in-Refused
 returns-in-Refused c =
-    call-promises _ _
-    (call-refused _ _ c.check_pair.ensures c.in-Refused.is)
+    let promised =
+      call-promises _ _
+      (call-refused _ _ c.check_pair.ensures c.in-Refused.is) in
+    record { answer = promised.0; rules = promised.1 }
 
 pub returns-in-Taken : goal.returns-in-Taken
 returns-in-Taken c =
-    call-promises _ _
-    (call-summed _ _ c.check_pair.ensures c.in-Taken.is c.mismatch_sum-sum.ensures)
+    let promised =
+      call-promises _ _
+      (call-summed _ _ c.check_pair.ensures c.in-Taken.is c.mismatch_sum-sum.ensures) in
+    record { answer = promised.0; rules = promised.1 }
