@@ -11,8 +11,8 @@ mod report;
 
 use case_input::LONGEST;
 use case_lines::status::{LONGEST_RESULT, RESULT_FILL};
-use libc::STDIN_FILENO;
 use plane::Corner;
+use std::io;
 
 // What stands at every place of a list to write before a call.
 const FILL: i32 = 77;
@@ -55,50 +55,56 @@ fn read_given(s: &[u8], from: usize) -> Given {
 }
 
 // Removes a corner, both ways.
-fn remove(a: &[i32], corner: usize, out_length: u32) {
+fn remove(rt: &impl Print, a: &[i32], corner: usize, out_length: u32) -> io::Result<()> {
     let length = case_input::at_most(LONGEST, out_length);
     let mut out = [FILL; LONGEST];
-    rattle_calls::remove(a, corner, &mut out[..length]);
+    rattle_calls::remove(rt, a, corner, &mut out[..length])?;
     let mut c_out = [FILL; LONGEST];
-    c_functions::remove(a, corner, &mut c_out[..length]);
+    c_functions::remove(rt, a, corner, &mut c_out[..length])
 }
 
-fn c_nearest(v: Corner, a: &[i32], result_length: u32) {
+fn c_nearest(rt: &impl Print, v: Corner, a: &[i32], result_length: u32) -> io::Result<()> {
     let length = case_input::at_most(LONGEST_RESULT, result_length);
     let mut result = [RESULT_FILL; LONGEST_RESULT];
-    c_functions::nearest(v, a, &mut result[..length]);
+    c_functions::nearest(rt, v, a, &mut result[..length])
 }
 
-fn c_compare(a: &[i32], b: &[i32], allowance: u32, result_length: u32) {
+fn c_compare(
+    rt: &impl Print,
+    a: &[i32],
+    b: &[i32],
+    allowance: u32,
+    result_length: u32,
+) -> io::Result<()> {
     let length = case_input::at_most(LONGEST_RESULT, result_length);
     let mut result = [RESULT_FILL; LONGEST_RESULT];
-    c_functions::compare(a, b, allowance, &mut result[..length]);
+    c_functions::compare(rt, a, b, allowance, &mut result[..length])
 }
 
-fn c_mismatch(a: &[i32], b: &[i32], result_length: u32) {
+fn c_mismatch(rt: &impl Print, a: &[i32], b: &[i32], result_length: u32) -> io::Result<()> {
     let length = case_input::at_most(LONGEST_RESULT, result_length);
     let mut result = [RESULT_FILL; LONGEST_RESULT];
-    c_functions::mismatch(a, b, &mut result[..length]);
+    c_functions::mismatch(rt, a, b, &mut result[..length])
 }
 
 // Makes every call for one case.
-fn answer_case(a: &[i32], b: &[i32], given: Given) {
+fn answer_case(rt: &impl Print, a: &[i32], b: &[i32], given: Given) -> io::Result<()> {
     let v = Corner {
         x: given.x,
         y: given.y,
     };
-    rattle_calls::read(a);
-    rattle_calls::read_strict(a);
-    rattle_calls::nearest(v, a);
-    remove(a, given.corner, given.out_length);
-    c_nearest(v, a, given.nearest_length);
-    c_compare(a, b, given.allowance, given.compare_length);
-    rattle_calls::mismatch(a, b);
-    c_mismatch(a, b, given.mismatch_length);
+    rattle_calls::read(rt, a)?;
+    rattle_calls::read_strict(rt, a)?;
+    rattle_calls::nearest(rt, v, a)?;
+    remove(rt, a, given.corner, given.out_length)?;
+    c_nearest(rt, v, a, given.nearest_length)?;
+    c_compare(rt, a, b, given.allowance, given.compare_length)?;
+    rattle_calls::mismatch(rt, a, b)?;
+    c_mismatch(rt, a, b, given.mismatch_length)
 }
 
 // Answers the case at a place of the input. Gives the place after it.
-fn next_case(s: &[u8], from: usize) -> usize {
+fn next_case(rt: &impl Print, s: &[u8], from: usize) -> io::Result<usize> {
     let a = case_input::read_list(s, from);
     let b = case_input::read_list(s, a.next);
     let given = read_given(s, b.next);
@@ -107,20 +113,21 @@ fn next_case(s: &[u8], from: usize) -> usize {
     let aitems = a.items;
     let bitems = b.items;
     let next = given.next;
-    answer_case(&aitems[..acount], &bitems[..bcount], given);
-    next
+    answer_case(rt, &aitems[..acount], &bitems[..bcount], given)?;
+    Ok(next)
 }
 
-fn answer_cases(s: &[u8]) {
+fn answer_cases(rt: &impl Print, s: &[u8]) -> io::Result<()> {
     let count = case_input::read_number(s, 0);
     let mut next = count.next;
     for _ in 0..count.size {
-        next = next_case(s, next);
+        next = next_case(rt, s, next)?;
     }
+    Ok(())
 }
 
-fn main() {
+fn main(rt: HostRuntime) -> io::Result<()> {
     let mut text = case_input::room();
-    let count = io::read_full(STDIN_FILENO, &mut text);
-    answer_cases(&text[..count]);
+    let count = standard_input::read_full(&rt, &mut text)?;
+    answer_cases(&rt, &text[..count])
 }

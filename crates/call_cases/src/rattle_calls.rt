@@ -13,61 +13,62 @@ use mismatch::MismatchAnswer;
 use nearest::NearestAnswer;
 use outline::{Orientation, Verdict};
 use plane::Corner;
+use std::io;
 
-fn print_orientation(orientation: Orientation) {
+fn print_orientation(rt: &impl Print, orientation: Orientation) -> io::Result<()> {
     match orientation {
-        Orientation::Counterclockwise => print::text(b" counterclockwise"),
-        Orientation::Clockwise => print::text(b" clockwise"),
+        Orientation::Counterclockwise => print::text(rt, b" counterclockwise"),
+        Orientation::Clockwise => print::text(rt, b" clockwise"),
     }
 }
 
-pub fn read(a: &[i32]) {
+pub fn read(rt: &impl Print, a: &[i32]) -> io::Result<()> {
     let reading = calls::read_outline(a);
     let verdict = reading.verdict;
     let orientation = reading.orientation;
     let outline = reading.outline;
-    print::text(b"read");
+    print::text(rt, b"read")?;
     match verdict {
         Verdict::Taken => {
-            print_orientation(orientation);
-            report::print_outline(outline);
+            print_orientation(rt, orientation)?;
+            report::print_outline(rt, outline)?;
         }
-        Verdict::Refused(refusal) => print_refusal(refusal),
+        Verdict::Refused(refusal) => print_refusal(rt, refusal)?,
     }
-    print::text(b"\n");
+    print::text(rt, b"\n")
 }
 
-pub fn read_strict(a: &[i32]) {
+pub fn read_strict(rt: &impl Print, a: &[i32]) -> io::Result<()> {
     let reading = calls::read_outline_strict(a);
     let verdict = reading.verdict;
     let outline = reading.outline;
-    print::text(b"read_strict");
+    print::text(rt, b"read_strict")?;
     match verdict {
-        Verdict::Taken => report::print_outline(outline),
-        Verdict::Refused(refusal) => print_refusal(refusal),
+        Verdict::Taken => report::print_outline(rt, outline)?,
+        Verdict::Refused(refusal) => print_refusal(rt, refusal)?,
     }
-    print::text(b"\n");
+    print::text(rt, b"\n")
 }
 
-pub fn nearest(v: Corner, a: &[i32]) {
-    print::text(b"nearest");
+pub fn nearest(rt: &impl Print, v: Corner, a: &[i32]) -> io::Result<()> {
+    print::text(rt, b"nearest")?;
     match calls::nearest_point(v, a) {
-        NearestAnswer::Found(found) => report::print_nearest(found),
-        NearestAnswer::Refused(refusal) => print_refusal(refusal),
+        NearestAnswer::Found(found) => report::print_nearest(rt, found)?,
+        NearestAnswer::Refused(refusal) => print_refusal(rt, refusal)?,
     }
-    print::text(b"\n");
+    print::text(rt, b"\n")
 }
 
-pub fn remove(a: &[i32], corner: usize, out: &mut [i32]) {
+pub fn remove(rt: &impl Print, a: &[i32], corner: usize, out: &mut [i32]) -> io::Result<()> {
     let verdict = calls::remove_corner(a, corner, out);
-    print_edit(b"remove", verdict, out);
+    print_edit(rt, b"remove", verdict, out)
 }
 
-pub fn mismatch(a: &[i32], b: &[i32]) {
-    print::text(b"mismatch");
+pub fn mismatch(rt: &impl Print, a: &[i32], b: &[i32]) -> io::Result<()> {
+    print::text(rt, b"mismatch")?;
     match calls::mismatch(a, b) {
-        MismatchAnswer::Summed(sum) => print_natural(sum),
-        MismatchAnswer::Refused(refusal) => print_refusal(refusal),
+        MismatchAnswer::Summed(sum) => print_natural(rt, sum)?,
+        MismatchAnswer::Refused(refusal) => print_refusal(rt, refusal)?,
     }
-    print::text(b"\n");
+    print::text(rt, b"\n")
 }

@@ -3,28 +3,30 @@ use case_lines::{print_coordinate, print_natural};
 use nearest::NearestPoint;
 use outline::{MOST, Outline};
 use plane::Corner;
+use std::io;
 use text::output::Text;
 
-fn print_corner(c: Corner) {
-    print_coordinate(c.x);
-    print_coordinate(c.y);
+fn print_corner(rt: &impl Print, c: Corner) -> io::Result<()> {
+    print_coordinate(rt, c.x)?;
+    print_coordinate(rt, c.y)
 }
 
 // How many corners an outline has, and these.
-pub fn print_outline(outline: Outline) {
-    print_natural(outline.count as u64);
+pub fn print_outline(rt: &impl Print, outline: Outline) -> io::Result<()> {
+    print_natural(rt, outline.count as u64)?;
     for i in 0..MOST {
         if i < outline.count {
-            print_corner(outline.corners[i]);
+            print_corner(rt, outline.corners[i])?;
         }
     }
+    Ok(())
 }
 
-pub fn print_nearest(found: NearestPoint) {
+pub fn print_nearest(rt: &impl Print, found: NearestPoint) -> io::Result<()> {
     let feature = found.feature;
     let gap = found.gap;
     let point = found.point;
     let t = answer_text::feature(Text::empty().bytes(b" "), feature);
     let t = answer_text::fraction(t.bytes(b" "), gap);
-    print::write(answer_text::point(t.bytes(b" "), point));
+    print::write(rt, answer_text::point(t.bytes(b" "), point))
 }

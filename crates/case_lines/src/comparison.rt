@@ -9,9 +9,10 @@ use hausdorff::{
     Comparison, CornerGap, Done, Report, SideAnswers, SideWorsts, Spent, SupportCorners, WorstSoFar,
 };
 use outline::Refusal;
+use std::io;
 use text::output::Text;
 
-fn print_corner_gap(found: CornerGap) {
+fn print_corner_gap(rt: &impl Print, found: CornerGap) -> io::Result<()> {
     let side = found.side;
     let feature = found.feature;
     let gap = found.gap;
@@ -19,71 +20,75 @@ fn print_corner_gap(found: CornerGap) {
     let t = answer_text::corner(Text::empty().bytes(b" "), side, found.corner);
     let t = answer_text::feature(t.bytes(b" "), feature);
     let t = answer_text::fraction(t.bytes(b" "), gap);
-    print::write(answer_text::point(t.bytes(b" "), point));
+    print::write(rt, answer_text::point(t.bytes(b" "), point))
 }
 
-fn print_worst(worst: WorstSoFar) {
+fn print_worst(rt: &impl Print, worst: WorstSoFar) -> io::Result<()> {
     match worst {
-        WorstSoFar::None => print::text(b" none"),
-        WorstSoFar::Worst(found) => print_corner_gap(found),
+        WorstSoFar::None => print::text(rt, b" none"),
+        WorstSoFar::Worst(found) => print_corner_gap(rt, found),
     }
 }
 
-fn print_support(support: SupportCorners) {
-    print_natural(support.a as u64);
-    print_natural(support.b as u64);
+fn print_support(rt: &impl Print, support: SupportCorners) -> io::Result<()> {
+    print_natural(rt, support.a as u64)?;
+    print_natural(rt, support.b as u64)
 }
 
-fn print_worsts(sides: SideWorsts) {
+fn print_worsts(rt: &impl Print, sides: SideWorsts) -> io::Result<()> {
     let a = sides.a;
     let b = sides.b;
-    print_worst(a);
-    print_worst(b);
+    print_worst(rt, a)?;
+    print_worst(rt, b)
 }
 
-fn print_spent(spent: Spent) {
+fn print_spent(rt: &impl Print, spent: Spent) -> io::Result<()> {
     let support = spent.support;
     let worst = spent.worst;
     let sides = spent.sides;
-    print::text(b"spent");
-    print_natural(spent.steps as u64);
-    print_support(support);
-    print_worst(worst);
-    print_worsts(sides);
+    print::text(rt, b"spent")?;
+    print_natural(rt, spent.steps as u64)?;
+    print_support(rt, support)?;
+    print_worst(rt, worst)?;
+    print_worsts(rt, sides)
 }
 
-fn print_answers(sides: SideAnswers) {
+fn print_answers(rt: &impl Print, sides: SideAnswers) -> io::Result<()> {
     let a = sides.a;
     let b = sides.b;
-    print_corner_gap(a);
-    print_corner_gap(b);
+    print_corner_gap(rt, a)?;
+    print_corner_gap(rt, b)
 }
 
-fn print_done(done: Done) {
+fn print_done(rt: &impl Print, done: Done) -> io::Result<()> {
     let answer = done.answer;
     let sides = done.sides;
-    print::text(b"done");
-    print_natural(done.steps as u64);
-    print_corner_gap(answer);
-    print_natural(done.clearance);
-    print_answers(sides);
+    print::text(rt, b"done")?;
+    print_natural(rt, done.steps as u64)?;
+    print_corner_gap(rt, answer)?;
+    print_natural(rt, done.clearance)?;
+    print_answers(rt, sides)
 }
 
-fn print_report(report: Report) {
+fn print_report(rt: &impl Print, report: Report) -> io::Result<()> {
     match report {
-        Report::Spent(spent) => print_spent(spent),
-        Report::Done(done) => print_done(done),
+        Report::Spent(spent) => print_spent(rt, spent),
+        Report::Done(done) => print_done(rt, done),
     }
 }
 
-fn print_refusal(refusal: Refusal) {
-    print::write(answer_text::refusal(Text::empty(), refusal));
+fn print_refusal(rt: &impl Print, refusal: Refusal) -> io::Result<()> {
+    print::write(rt, answer_text::refusal(Text::empty(), refusal))
 }
 
-pub fn print_comparison(comparison: Comparison) {
+fn print_parts(rt: &impl Print, comparison: Comparison) -> io::Result<()> {
     match comparison {
-        Comparison::Refused(refusal) => print_refusal(refusal),
-        Comparison::Reported(report) => print_report(report),
+        Comparison::Refused(refusal) => print_refusal(rt, refusal),
+        Comparison::Reported(report) => print_report(rt, report),
     }
-    print::text(b"\n");
+}
+
+pub fn print_comparison(rt: &impl Print, comparison: Comparison) -> io::Result<()> {
+    print_parts(rt, comparison)?;
+    print::text(rt, b"\n")
 }

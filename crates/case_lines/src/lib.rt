@@ -7,22 +7,23 @@ pub mod edits;
 pub mod status;
 
 use outline::Refusal;
+use std::io;
 use text::output::Text;
 
-pub fn print_natural(n: u64) {
-    print::text(b" ");
-    print::natural(n);
+pub fn print_natural(rt: &impl Print, n: u64) -> io::Result<()> {
+    print::text(rt, b" ")?;
+    print::natural(rt, n)
 }
 
-pub fn print_signed(n: i64) {
-    print::text(b" ");
-    print::signed(n);
+pub fn print_signed(rt: &impl Print, n: i64) -> io::Result<()> {
+    print::text(rt, b" ")?;
+    print::signed(rt, n)
 }
 
-pub fn print_coordinate(n: i32) {
-    print_signed(n as i64);
+pub fn print_coordinate(rt: &impl Print, n: i32) -> io::Result<()> {
+    print_signed(rt, n as i64)
 }
 
-pub fn print_refusal(refusal: Refusal) {
-    print::write(answer_text::refusal(Text::empty().bytes(b" "), refusal));
+pub fn print_refusal(rt: &impl Print, refusal: Refusal) -> io::Result<()> {
+    print::write(rt, answer_text::refusal(Text::empty().bytes(b" "), refusal))
 }

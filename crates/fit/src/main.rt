@@ -1,6 +1,8 @@
 // The fit program: reads two outlines from standard input and writes their comparison.
 #![tactic(auto)]
 
-fn main() {
-    fit_io::run();
+use std::io;
+
+fn main(rt: HostRuntime) -> io::Result<()> {
+    fit_io::run(&rt)
 }

@@ -4,7 +4,7 @@
 
 ghost use Rattle.std.specs.Prelude.{◌≡◌, ◌≤◌, length};
 
-use libc::STDIN_FILENO;
+use std::io;
 
 const END: u8 = 255;
 
@@ -25,13 +25,14 @@ fn case_end(s: &[u8], from: usize) -> usize
     i
 }
 
-fn respond_each(s: &[u8]) {
+fn respond_each(rt: &impl Print, s: &[u8]) -> io::Result<()> {
     let mut from = 0;
     while from < s.len() {
         let end = case_end(s, from);
-        print::write(fit_text::respond(&s[from..end]));
+        print::write(rt, fit_text::respond(&s[from..end]))?;
         from = end + 1;
     }
+    Ok(())
 }
 
 // Room for the input. The contract has the length alone, not the list of all the zeros.
@@ -41,8 +42,8 @@ fn room() -> [u8; ROOM]
     [0; ROOM]
 }
 
-fn main() {
+fn main(rt: HostRuntime) -> io::Result<()> {
     let mut text = room();
-    let count = io::read_full(STDIN_FILENO, &mut text);
-    respond_each(&text[..count]);
+    let count = standard_input::read_full(&rt, &mut text)?;
+    respond_each(&rt, &text[..count])
 }

@@ -4,7 +4,7 @@
 ghost use Rattle.std.specs.Prelude.{◌≡◌, suc, length};
 ghost use Rattle.fit_text.specs.Response.{most_bytes};
 
-use libc::STDIN_FILENO;
+use std::io;
 
 // Room for one byte above the limit: of a longer input no more need be read (`response-start` in
 // `fit_text/proofs/ResponseLaws.antt`).
@@ -17,10 +17,9 @@ fn room() -> [u8; ROOM]
     [0; ROOM]
 }
 
-// Reads two outlines from standard input and writes their comparison. A read that fails counts as the end of the input,
-// and what cannot be written is lost.
-pub fn run() {
+// Reads two outlines from standard input and writes their comparison. Gives the error of a read or a write that fails.
+pub fn run(rt: &(impl Input + Print)) -> io::Result<()> {
     let mut input = room();
-    let count = io::read_full(STDIN_FILENO, &mut input);
-    print::write(fit_text::respond(&input[..count]));
+    let count = standard_input::read_full(rt, &mut input)?;
+    print::write(rt, fit_text::respond(&input[..count]))
 }

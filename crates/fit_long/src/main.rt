@@ -2,6 +2,8 @@
 // `tests/cases.py` writes the input and, by another way, what is to be written.
 #![tactic(auto)]
 
-fn main() {
-    fit_io::run();
+use std::io;
+
+fn main(rt: HostRuntime) -> io::Result<()> {
+    fit_io::run(&rt)
 }

@@ -14,7 +14,7 @@ use case_lines::edits::print_all;
 use case_lines::status::{LONGEST_RESULT, RESULT_FILL, print_numbers, print_status};
 use case_lines::{print_natural, print_refusal};
 use hull::HullAnswer;
-use libc::STDIN_FILENO;
+use std::io;
 
 // What stands at every place of a list to write before a call.
 const FILL: i32 = 77;
@@ -41,48 +41,60 @@ fn read_given(s: &[u8], from: usize) -> Given {
 }
 
 // The lists for corners and for marks.
-fn print_lists(out: &[i32], marks: &[i32]) {
-    print::text(b" list");
-    print_all(out);
-    print::text(b" marks");
-    print_all(marks);
+fn print_lists(rt: &impl Print, out: &[i32], marks: &[i32]) -> io::Result<()> {
+    print::text(rt, b" list")?;
+    print_all(rt, out)?;
+    print::text(rt, b" marks")?;
+    print_all(rt, marks)
 }
 
 // Prints an answer. Gives the corner count, 0 of a refusal.
-fn print_answer(answer: HullAnswer) -> usize {
+fn print_answer(rt: &impl Print, answer: HullAnswer) -> io::Result<usize> {
     match answer {
         HullAnswer::Refused(refusal) => {
-            print_refusal(refusal);
-            0
+            print_refusal(rt, refusal)?;
+            Ok(0)
         }
         HullAnswer::Made(count) => {
-            print_natural(count as u64);
-            count
+            print_natural(rt, count as u64)?;
+            Ok(count)
         }
     }
 }
 
 // Makes the call and prints its line. Gives the corner count, 0 where it is refused.
-fn hull(name: &[u8], points: &[i32], out: &mut [i32], marks: &mut [i32]) -> usize {
+fn hull(
+    rt: &impl Print,
+    name: &[u8],
+    points: &[i32],
+    out: &mut [i32],
+    marks: &mut [i32],
+) -> io::Result<usize> {
     let answer = calls::convex_hull(points, out, marks);
-    print::text(name);
-    let count = print_answer(answer);
-    print_lists(&out[..], &marks[..]);
-    print::text(b"\n");
-    count
+    print::text(rt, name)?;
+    let count = print_answer(rt, answer)?;
+    print_lists(rt, &out[..], &marks[..])?;
+    print::text(rt, b"\n")?;
+    Ok(count)
 }
 
-fn c_hull(points: &[i32], out: &mut [i32], marks: &mut [i32], res: &mut [i64]) {
+fn c_hull(
+    rt: &impl Print,
+    points: &[i32],
+    out: &mut [i32],
+    marks: &mut [i32],
+    res: &mut [i64],
+) -> io::Result<()> {
     let returned = ravinebowl::ravinebowl_convex_hull(points, out, marks, res);
-    print_status(b"c_hull", returned);
-    print_lists(&out[..], &marks[..]);
-    print::text(b" result");
-    print_numbers(&res[..]);
-    print::text(b"\n");
+    print_status(rt, b"c_hull", returned)?;
+    print_lists(rt, &out[..], &marks[..])?;
+    print::text(rt, b" result")?;
+    print_numbers(rt, &res[..])?;
+    print::text(rt, b"\n")
 }
 
 // The line of the C function.
-fn answer_c(points: &[i32], given: Given) {
+fn answer_c(rt: &impl Print, points: &[i32], given: Given) -> io::Result<()> {
     let out_length = case_input::at_most(LONGEST, given.out_length);
     let marks_length = case_input::at_most(LONGEST, given.marks_length);
     let result_length = case_input::at_most(LONGEST_RESULT, given.result_length);
@@ -90,11 +102,12 @@ fn answer_c(points: &[i32], given: Given) {
     let mut marks = [FILL; LONGEST];
     let mut result = [RESULT_FILL; LONGEST_RESULT];
     c_hull(
+        rt,
         points,
         &mut out[..out_length],
         &mut marks[..marks_length],
         &mut result[..result_length],
-    );
+    )
 }
 
 // The numbers of the corners of a hull, as far as a list has them.
@@ -108,67 +121,76 @@ fn numbers_of(count: usize, length: usize) -> usize
 }
 
 // The line of the hull of the corners just written.
-fn answer_again(corners: &[i32]) {
+fn answer_again(rt: &impl Print, corners: &[i32]) -> io::Result<()> {
     if corners.len() == 0 {
-        print::text(b"hull_again none\n");
-        return;
+        return print::text(rt, b"hull_again none\n");
     }
     if LONGEST < corners.len() {
-        return;
+        return Ok(());
     }
     let length = corners.len();
     let mut out = [FILL; LONGEST];
     let mut marks = [FILL; LONGEST];
     hull(
+        rt,
         b"hull_again",
         corners,
         &mut out[..length],
         &mut marks[..length / 2],
-    );
+    )?;
+    Ok(())
 }
 
 // Makes the calls for one case, the first with these lists to write.
-fn answer_hull(points: &[i32], given: Given, out: &mut [i32], marks: &mut [i32]) {
-    let count = hull(b"hull", points, out, marks);
-    answer_c(points, given);
+fn answer_hull(
+    rt: &impl Print,
+    points: &[i32],
+    given: Given,
+    out: &mut [i32],
+    marks: &mut [i32],
+) -> io::Result<()> {
+    let count = hull(rt, b"hull", points, out, marks)?;
+    answer_c(rt, points, given)?;
     let length = numbers_of(count, out.len());
-    answer_again(&out[..length]);
+    answer_again(rt, &out[..length])
 }
 
-fn answer_case(points: &[i32], given: Given) {
+fn answer_case(rt: &impl Print, points: &[i32], given: Given) -> io::Result<()> {
     let out_length = case_input::at_most(LONGEST, given.out_length);
     let marks_length = case_input::at_most(LONGEST, given.marks_length);
     let mut out = [FILL; LONGEST];
     let mut marks = [FILL; LONGEST];
     answer_hull(
+        rt,
         points,
         given,
         &mut out[..out_length],
         &mut marks[..marks_length],
-    );
+    )
 }
 
 // Answers the case at a place of the input. Gives the place after it.
-fn next_case(s: &[u8], from: usize) -> usize {
+fn next_case(rt: &impl Print, s: &[u8], from: usize) -> io::Result<usize> {
     let points = case_input::read_list(s, from);
     let given = read_given(s, points.next);
     let count = points.count;
     let items = points.items;
     let next = given.next;
-    answer_case(&items[..count], given);
-    next
+    answer_case(rt, &items[..count], given)?;
+    Ok(next)
 }
 
-fn answer_cases(s: &[u8]) {
+fn answer_cases(rt: &impl Print, s: &[u8]) -> io::Result<()> {
     let count = case_input::read_number(s, 0);
     let mut next = count.next;
     for _ in 0..count.size {
-        next = next_case(s, next);
+        next = next_case(rt, s, next)?;
     }
+    Ok(())
 }
 
-fn main() {
+fn main(rt: HostRuntime) -> io::Result<()> {
     let mut text = case_input::room();
-    let count = io::read_full(STDIN_FILENO, &mut text);
-    answer_cases(&text[..count]);
+    let count = standard_input::read_full(&rt, &mut text)?;
+    answer_cases(&rt, &text[..count])
 }

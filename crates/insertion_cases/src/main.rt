@@ -10,9 +10,9 @@ ghost use Rattle.std.specs.Prelude.{◌≤◌};
 use case_input::LONGEST;
 use case_lines::edits::{print_coordinates, print_edit};
 use case_lines::status::print_status;
-use libc::STDIN_FILENO;
 use outline::Verdict;
 use plane::Corner;
+use std::io;
 
 // What stands at every place of a list to write before a call.
 const FILL: i32 = 77;
@@ -48,42 +48,54 @@ fn read_given(s: &[u8], from: usize) -> Given {
 }
 
 // Inserts, and says whether that was done.
-fn insert(a: &[i32], place: usize, v: Corner, out: &mut [i32]) -> bool {
+fn insert(
+    rt: &impl Print,
+    a: &[i32],
+    place: usize,
+    v: Corner,
+    out: &mut [i32],
+) -> io::Result<bool> {
     let verdict = calls::insert_corner(a, place, v, out);
-    print_edit(b"insert", verdict, &out[..]);
+    print_edit(rt, b"insert", verdict, &out[..])?;
     match verdict {
-        Verdict::Taken => true,
-        Verdict::Refused(_) => false,
+        Verdict::Taken => Ok(true),
+        Verdict::Refused(_) => Ok(false),
     }
 }
 
-fn c_insert(a: &[i32], place: usize, v: Corner, out: &mut [i32]) {
+fn c_insert(
+    rt: &impl Print,
+    a: &[i32],
+    place: usize,
+    v: Corner,
+    out: &mut [i32],
+) -> io::Result<()> {
     let returned = ravinebowl::ravinebowl_insert_corner(a, place, v.x, v.y, out);
-    print_status(b"c_insert", returned);
-    print_coordinates(&out[..]);
+    print_status(rt, b"c_insert", returned)?;
+    print_coordinates(rt, &out[..])
 }
 
 // Inserts, both ways, and removes what was inserted.
 fn insert_remove(
+    rt: &impl Print,
     a: &[i32],
     place: usize,
     v: Corner,
     out: &mut [i32],
     c_out: &mut [i32],
     back: &mut [i32],
-) {
-    let is_inserted = insert(a, place, v, out);
-    c_insert(a, place, v, c_out);
+) -> io::Result<()> {
+    let is_inserted = insert(rt, a, place, v, out)?;
+    c_insert(rt, a, place, v, c_out)?;
     if !is_inserted {
-        print::text(b"insert_remove none\n");
-        return;
+        return print::text(rt, b"insert_remove none\n");
     }
     let verdict = calls::remove_corner(&out[..], place, back);
-    print_edit(b"insert_remove", verdict, &back[..]);
+    print_edit(rt, b"insert_remove", verdict, &back[..])
 }
 
 // The lines of inserting.
-fn answer_insert(a: &[i32], given: Given) {
+fn answer_insert(rt: &impl Print, a: &[i32], given: Given) -> io::Result<()> {
     let v = given.v;
     let length = case_input::at_most(LONGEST, given.out_length);
     let back_length = case_input::at_most(LONGEST, given.back_length);
@@ -91,13 +103,14 @@ fn answer_insert(a: &[i32], given: Given) {
     let mut c_out = [FILL; LONGEST];
     let mut back = [FILL; LONGEST];
     insert_remove(
+        rt,
         a,
         given.place,
         v,
         &mut out[..length],
         &mut c_out[..length],
         &mut back[..back_length],
-    );
+    )
 }
 
 // The corner of a list with a number, or (0, 0).
@@ -112,13 +125,19 @@ fn corner_at(a: &[i32], i: usize) -> Corner {
 }
 
 // Removes a corner, and inserts it again.
-fn remove_insert(a: &[i32], place: usize, out: &mut [i32], back: &mut [i32]) {
+fn remove_insert(
+    rt: &impl Print,
+    a: &[i32],
+    place: usize,
+    out: &mut [i32],
+    back: &mut [i32],
+) -> io::Result<()> {
     let v = corner_at(a, place);
     match calls::remove_corner(a, place, out) {
-        Verdict::Refused(_) => print::text(b"remove_insert none\n"),
+        Verdict::Refused(_) => print::text(rt, b"remove_insert none\n"),
         Verdict::Taken => {
             let verdict = calls::insert_corner(&out[..], place, v, back);
-            print_edit(b"remove_insert", verdict, &back[..]);
+            print_edit(rt, b"remove_insert", verdict, &back[..])
         }
     }
 }
@@ -137,41 +156,48 @@ fn rest_length(length: usize) -> usize
 }
 
 // The line of removing. The list for what remains is just as long as that.
-fn answer_remove(a: &[i32], given: Given) {
+fn answer_remove(rt: &impl Print, a: &[i32], given: Given) -> io::Result<()> {
     let length = rest_length(a.len());
     let back_length = case_input::at_most(LONGEST, given.back_length);
     let mut out = [FILL; LONGEST];
     let mut back = [FILL; LONGEST];
-    remove_insert(a, given.place, &mut out[..length], &mut back[..back_length]);
+    remove_insert(
+        rt,
+        a,
+        given.place,
+        &mut out[..length],
+        &mut back[..back_length],
+    )
 }
 
 // Makes the calls for one case.
-fn answer_case(a: &[i32], given: Given) {
-    answer_insert(a, given);
-    answer_remove(a, given);
+fn answer_case(rt: &impl Print, a: &[i32], given: Given) -> io::Result<()> {
+    answer_insert(rt, a, given)?;
+    answer_remove(rt, a, given)
 }
 
 // Answers the case at a place of the input. Gives the place after it.
-fn next_case(s: &[u8], from: usize) -> usize {
+fn next_case(rt: &impl Print, s: &[u8], from: usize) -> io::Result<usize> {
     let a = case_input::read_list(s, from);
     let given = read_given(s, a.next);
     let count = a.count;
     let items = a.items;
     let next = given.next;
-    answer_case(&items[..count], given);
-    next
+    answer_case(rt, &items[..count], given)?;
+    Ok(next)
 }
 
-fn answer_cases(s: &[u8]) {
+fn answer_cases(rt: &impl Print, s: &[u8]) -> io::Result<()> {
     let count = case_input::read_number(s, 0);
     let mut next = count.next;
     for _ in 0..count.size {
-        next = next_case(s, next);
+        next = next_case(rt, s, next)?;
     }
+    Ok(())
 }
 
-fn main() {
+fn main(rt: HostRuntime) -> io::Result<()> {
     let mut text = case_input::room();
-    let count = io::read_full(STDIN_FILENO, &mut text);
-    answer_cases(&text[..count]);
+    let count = standard_input::read_full(&rt, &mut text)?;
+    answer_cases(&rt, &text[..count])
 }

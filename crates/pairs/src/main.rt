@@ -5,45 +5,46 @@
 #![tactic(auto)]
 
 use case_lines::comparison;
-use libc::STDIN_FILENO;
+use std::io;
 
 // Compares two lists with each of the allowances, which stand at a place of the input. Gives the place after them.
-fn compare_each(s: &[u8], from: usize, a: &[i32], b: &[i32]) -> usize {
+fn compare_each(rt: &impl Print, s: &[u8], from: usize, a: &[i32], b: &[i32]) -> io::Result<usize> {
     let count = case_input::read_number(s, from);
     let mut next = count.next;
     for _ in 0..count.size {
         let allowance = case_input::read_number(s, next);
-        comparison::print_comparison(calls::compare(a, b, allowance.size));
+        comparison::print_comparison(rt, calls::compare(a, b, allowance.size))?;
         next = allowance.next;
     }
-    next
+    Ok(next)
 }
 
 // Compares the pair at a place of the input. Gives the place after it.
-fn compare_pair(s: &[u8], from: usize) -> usize {
+fn compare_pair(rt: &impl Print, s: &[u8], from: usize) -> io::Result<usize> {
     let a = case_input::read_list(s, from);
     let b = case_input::read_list(s, a.next);
     let acount = a.count;
     let bcount = b.count;
     let aitems = a.items;
     let bitems = b.items;
-    compare_each(s, b.next, &aitems[..acount], &bitems[..bcount])
+    compare_each(rt, s, b.next, &aitems[..acount], &bitems[..bcount])
 }
 
 // Goes on only while the place in the input grows.
-fn compare_pairs(s: &[u8]) {
+fn compare_pairs(rt: &impl Print, s: &[u8]) -> io::Result<()> {
     let mut place = 0;
     while place < s.len() {
-        let next = compare_pair(s, place);
+        let next = compare_pair(rt, s, place)?;
         if next <= place {
-            return;
+            break;
         }
         place = next;
     }
+    Ok(())
 }
 
-fn main() {
+fn main(rt: HostRuntime) -> io::Result<()> {
     let mut text = case_input::room();
-    let count = io::read_full(STDIN_FILENO, &mut text);
-    compare_pairs(&text[..count]);
+    let count = standard_input::read_full(&rt, &mut text)?;
+    compare_pairs(&rt, &text[..count])
 }

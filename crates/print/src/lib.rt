@@ -1,28 +1,28 @@
-// Text and numbers on standard output.
+// Text and numbers on standard output. Each call gives the error of a write that fails.
 #![tactic(auto)]
 
 ghost use Rattle.text.specs.code.Output.{IsText};
 
-use libc::STDOUT_FILENO;
+use std::io;
 use text::output::Text;
 
-pub fn text(t: &[u8]) {
-    io::write_all(STDOUT_FILENO, t);
+pub fn text(rt: &impl Print, t: &[u8]) -> io::Result<()> {
+    rt.write_all(t)
 }
 
-pub fn natural(n: u64) {
-    io::print_decimal(STDOUT_FILENO, n);
+pub fn natural(rt: &impl Print, n: u64) -> io::Result<()> {
+    rt.print(n)
 }
 
 // Writes a text.
-pub fn write(t: Text)
+pub fn write(rt: &impl Print, t: Text) -> io::Result<()>
     requires { IsText t }
 {
     let count = t.count;
     let bytes = t.bytes;
-    text(&bytes[..count]);
+    text(rt, &bytes[..count])
 }
 
-pub fn signed(n: i64) {
-    write(Text::empty().signed(n));
+pub fn signed(rt: &impl Print, n: i64) -> io::Result<()> {
+    write(rt, Text::empty().signed(n))
 }

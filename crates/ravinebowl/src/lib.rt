@@ -1,5 +1,6 @@
-// The calls as C functions, over lists that the caller lends. None has a `requires`: each takes any lists. A
-// refusal is a status, and a refused call writes to no list. `embed/ravinebowl.h` declares them for C.
+// The calls as C functions have them, over lists that the caller lends. None has a `requires`: each takes any lists. A
+// refusal is a status, and a refused call writes to no list. The crate `ravinebowl_c` hands them to C under the same
+// names.
 #![tactic(auto)]
 
 ghost use Rattle.std.specs.Prelude.{◌≡◌, ◌+◌, ◌≤◌, length};
@@ -54,13 +55,7 @@ fn write_report(report: Report, res: &mut [i64])
 // Compares the outlines that the lists `a` and `b` give, in at most `allowance` steps, and writes 32 numbers to
 // `result`. A `result` of another length is judged first; then refusals 1 to 6 for A, then for B. Being spent is no
 // refusal.
-#[unsafe(no_mangle)]
-pub extern "C" fn ravinebowl_compare(
-    a: &[i32],
-    b: &[i32],
-    allowance: u32,
-    res: &mut [i64],
-) -> Status
+pub fn ravinebowl_compare(a: &[i32], b: &[i32], allowance: u32, res: &mut [i64]) -> Status
     ensures status { result ≡ compare_status a.now b.now allowance res.old }
     ensures list { res.new ≡ compare_list a.now b.now allowance res.old }
 {
@@ -80,8 +75,7 @@ pub extern "C" fn ravinebowl_compare(
 // `records`, in at most `allowance` steps, and writes 32 numbers to `result`, as `ravinebowl_compare` does. A `result` of
 // another length is judged first; then 10, of A; then 11, 12 and 2 to 6 for A, then for B. The lists of the chains go to
 // `ravinebowl_compare`, so that `comparing::compare` has one caller and is compiled into it (docs/DECISIONS.md).
-#[unsafe(no_mangle)]
-pub extern "C" fn ravinebowl_compare_records(
+pub fn ravinebowl_compare_records(
     records: &[i32],
     a_start: i32,
     b_start: i32,
@@ -104,13 +98,7 @@ pub extern "C" fn ravinebowl_compare_records(
 
 // Finds the nearest point, to the point (x, y), of the outline that the list `outline` gives, and writes 7 numbers
 // to `result`. A `result` of another length is judged first; then refusals 1 to 6 for the outline, then 7.
-#[unsafe(no_mangle)]
-pub extern "C" fn ravinebowl_nearest_point(
-    x: i32,
-    y: i32,
-    outline: &[i32],
-    res: &mut [i64],
-) -> Status
+pub fn ravinebowl_nearest_point(x: i32, y: i32, outline: &[i32], res: &mut [i64]) -> Status
     ensures status { result ≡ nearest_status x y outline.now res.old }
     ensures list { res.new ≡ nearest_list x y outline.now res.old }
 {
@@ -128,12 +116,7 @@ pub extern "C" fn ravinebowl_nearest_point(
 
 // Removes a corner from the outline that the list `outline` gives, and writes the other corners to `out`, in their
 // order. Refusals 1 to 6, 8, 2 and 9, in this order; 9 is for an `out` of the wrong length.
-#[unsafe(no_mangle)]
-pub extern "C" fn ravinebowl_remove_corner(
-    outline: &[i32],
-    corner: usize,
-    out: &mut [i32],
-) -> Status
+pub fn ravinebowl_remove_corner(outline: &[i32], corner: usize, out: &mut [i32]) -> Status
     ensures status { result ≡ removal_status outline.now corner out.old }
     ensures list { out.new ≡ list_after outline.now corner out.old }
 {
@@ -146,8 +129,7 @@ pub extern "C" fn ravinebowl_remove_corner(
 // Inserts the point (x, y) as corner `place` into the outline that the counterclockwise list `outline` gives, and writes
 // the corners of the result to `out`, in their order. Refusals, in this order: 1 to 6 for the outline, 8, 7, 3, 9, and 5
 // and 6 for the result, with places in the result; 9 is for an `out` of the wrong length.
-#[unsafe(no_mangle)]
-pub extern "C" fn ravinebowl_insert_corner(
+pub fn ravinebowl_insert_corner(
     outline: &[i32],
     place: usize,
     x: i32,
@@ -168,8 +150,7 @@ pub extern "C" fn ravinebowl_insert_corner(
 // else its corner number, else -2; and the corner count, one number, to `result`.
 // A `result` of another length is judged first; then refusals 1, 3, 4, 9 and 2; 9 is for an `out` or a `marks` of the wrong
 // length.
-#[unsafe(no_mangle)]
-pub extern "C" fn ravinebowl_convex_hull(
+pub fn ravinebowl_convex_hull(
     points: &[i32],
     out: &mut [i32],
     marks: &mut [i32],
@@ -195,8 +176,7 @@ pub extern "C" fn ravinebowl_convex_hull(
 // The mismatch sum of the outlines that the lists `a` and `b` give: the squared distance of every corner of each to the
 // other piece, 0 in it, is brought down to a whole number of 1/1024 square millimetres, and these are added. Writes this
 // one number to `result`. A `result` of another length is judged first; then refusals 1 to 6 for A, then for B.
-#[unsafe(no_mangle)]
-pub extern "C" fn ravinebowl_mismatch(a: &[i32], b: &[i32], res: &mut [i64]) -> Status
+pub fn ravinebowl_mismatch(a: &[i32], b: &[i32], res: &mut [i64]) -> Status
     ensures status { result ≡ mismatch_status a.now b.now res.old }
     ensures list { res.new ≡ mismatch_list a.now b.now res.old }
 {

@@ -7,7 +7,7 @@ ghost use Rattle.std.specs.Prelude.{◌≡◌, length};
 
 use case_lines::status::{LONGEST_RESULT, RESULT_FILL};
 use case_lines::{comparison, status};
-use libc::STDIN_FILENO;
+use std::io;
 
 // More numbers than any store of the input has.
 const LONGEST_STORE: usize = 2401;
@@ -36,7 +36,12 @@ fn read_given(s: &[u8], from: usize) -> Given {
     }
 }
 
-fn c_compare_records(store: &[i32], given: Given, res: &mut [i64]) {
+fn c_compare_records(
+    rt: &impl Print,
+    store: &[i32],
+    given: Given,
+    res: &mut [i64],
+) -> io::Result<()> {
     let a_start = given.a_start;
     let b_start = given.b_start;
     let returned = ravinebowl::ravinebowl_compare_records(
@@ -46,18 +51,19 @@ fn c_compare_records(store: &[i32], given: Given, res: &mut [i64]) {
         given.allowance,
         res,
     );
-    status::print_status(b"c_compare_records", returned);
-    status::print_result(res);
+    status::print_status(rt, b"c_compare_records", returned)?;
+    status::print_result(rt, res)
 }
 
 // Makes both calls for one case.
-fn answer_case(store: &[i32], given: Given) {
+fn answer_case(rt: &impl Print, store: &[i32], given: Given) -> io::Result<()> {
     let a_start = given.a_start;
     let b_start = given.b_start;
-    comparison::print_comparison(calls::compare_records(store, a_start, b_start, given.allowance));
+    let answer = calls::compare_records(store, a_start, b_start, given.allowance);
+    comparison::print_comparison(rt, answer)?;
     let length = case_input::at_most(LONGEST_RESULT, given.result_length);
     let mut result = [RESULT_FILL; LONGEST_RESULT];
-    c_compare_records(store, given, &mut result[..length]);
+    c_compare_records(rt, store, given, &mut result[..length])
 }
 
 // Room for the numbers of a store. The length as a contract spares a caller's proof the list of all the zeros.
@@ -69,32 +75,33 @@ fn room() -> [i32; LONGEST_STORE]
 
 // Answers the case whose store has its numbers at a place of the input, as many as the list has places. Gives the place
 // after it.
-fn answer_store(s: &[u8], from: usize, store: &mut [i32]) -> usize {
+fn answer_store(rt: &impl Print, s: &[u8], from: usize, store: &mut [i32]) -> io::Result<usize> {
     let next = case_input::read_items(s, from, store);
     let given = read_given(s, next);
     let next = given.next;
-    answer_case(&store[..], given);
-    next
+    answer_case(rt, &store[..], given)?;
+    Ok(next)
 }
 
 // Answers the case at a place of the input. Gives the place after it.
-fn next_case(s: &[u8], from: usize) -> usize {
+fn next_case(rt: &impl Print, s: &[u8], from: usize) -> io::Result<usize> {
     let length = case_input::read_number(s, from);
     let count = case_input::at_most(LONGEST_STORE, length.size);
     let mut store = room();
-    answer_store(s, length.next, &mut store[..count])
+    answer_store(rt, s, length.next, &mut store[..count])
 }
 
-fn answer_cases(s: &[u8]) {
+fn answer_cases(rt: &impl Print, s: &[u8]) -> io::Result<()> {
     let count = case_input::read_number(s, 0);
     let mut next = count.next;
     for _ in 0..count.size {
-        next = next_case(s, next);
+        next = next_case(rt, s, next)?;
     }
+    Ok(())
 }
 
-fn main() {
+fn main(rt: HostRuntime) -> io::Result<()> {
     let mut text = case_input::room();
-    let count = io::read_full(STDIN_FILENO, &mut text);
-    answer_cases(&text[..count]);
+    let count = standard_input::read_full(&rt, &mut text)?;
+    answer_cases(&rt, &text[..count])
 }
