@@ -1,6 +1,6 @@
 /* Ravinebowl: the Hausdorff distance and the mismatch sum of two convex outlines, the nearest point of an outline, removing and inserting a
- * corner, and the convex hull of points, in exact whole numbers. The functions are those of crates/ravinebowl, which
- * `rt staticlib ravinebowl` builds as target/staticlib/libravinebowl.a.
+ * corner, and the convex hull of points, in exact whole numbers. The functions are those of crates/ravinebowl_c, which
+ * `tools/static_library ravinebowl_c ravinebowl` builds as target/staticlib/libravinebowl.a.
  *
  * Units. Coordinates and the clearance are in whole millimetres; a gap, which is a squared distance, is in square millimetres, and a
  * mismatch sum in whole units of 1/1024 square millimetre.
