@@ -6,5 +6,5 @@ use Rattle.text.proofs.OutputLaws.{appended-text, text_of-text}
 use Rattle.print.proofs.signed.Goals as goal
 
 pub write-requires : goal.write-requires
-write-requires c =
+write-requires g c =
     rw (c.signed.ensures, c.empty.ensures) (appended-text (text_of []) _ (text_of-text [] (omega arith)))
