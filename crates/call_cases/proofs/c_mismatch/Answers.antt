@@ -4,4 +4,4 @@ use lib.Seq.{length-take-le}
 use Rattle.call_cases.proofs.c_mismatch.Goals as goal
 
 pub slice_bounds-mismatch-end : goal.slice_bounds-mismatch-end
-slice_bounds-mismatch-end c = sym (length-take-le _ _ c.at_most-length.ensures)
+slice_bounds-mismatch-end g c = sym (length-take-le _ _ c.at_most-length.ensures)

@@ -4,4 +4,4 @@ use lib.Seq.{length-take-le}
 use Rattle.call_cases.proofs.c_nearest.Goals as goal
 
 pub slice_bounds-nearest-end : goal.slice_bounds-nearest-end
-slice_bounds-nearest-end c = sym (length-take-le _ _ c.at_most-length.ensures)
+slice_bounds-nearest-end g c = sym (length-take-le _ _ c.at_most-length.ensures)

@@ -4,8 +4,8 @@ use lib.Seq.{length-take-le}
 use Rattle.call_cases.proofs.next_case.Goals as goal
 
 pub slice_bounds-answer_case-end : goal.slice_bounds-answer_case-end
-slice_bounds-answer_case-end c = sym (length-take-le _ _ c.read_list-a.ensures)
+slice_bounds-answer_case-end g c = sym (length-take-le _ _ c.read_list-a.ensures)
 
 pub slice_bounds-answer_case-end-2 : goal.slice_bounds-answer_case-end-2
-slice_bounds-answer_case-end-2 c =
+slice_bounds-answer_case-end-2 g c =
     sym (length-take-le _ _ c.read_list-b.ensures)

@@ -3,4 +3,4 @@ use Rattle.text.proofs.OutputLaws.{text_of-text}
 use Rattle.fit_io.proofs.run.Goals as goal
 
 pub write-requires : goal.write-requires
-write-requires c = rw c.respond.ensures.bytes (text_of-text _ c.respond.ensures.whole)
+write-requires g c = rw c.respond.ensures.bytes (text_of-text _ c.respond.ensures.whole)

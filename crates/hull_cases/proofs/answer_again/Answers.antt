@@ -4,4 +4,4 @@ use lib.Seq.{length-take-le}
 use Rattle.hull_cases.proofs.answer_again.Goals as goal
 
 pub slice_bounds-hull-end-3 : goal.slice_bounds-hull-end-3
-slice_bounds-hull-end-3 c = sym (length-take-le _ _ c.if-corners-gt-LONGEST.false)
+slice_bounds-hull-end-3 g c = sym (length-take-le _ _ c.if-corners-gt-LONGEST.false)

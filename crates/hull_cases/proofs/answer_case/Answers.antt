@@ -4,7 +4,7 @@ use lib.Seq.{length-take-le}
 use Rattle.hull_cases.proofs.answer_case.Goals as goal
 
 pub slice_bounds-answer_hull-end : goal.slice_bounds-answer_hull-end
-slice_bounds-answer_hull-end c = sym (length-take-le _ _ c.at_most-out_length.ensures)
+slice_bounds-answer_hull-end g c = sym (length-take-le _ _ c.at_most-out_length.ensures)
 
 pub slice_bounds-answer_hull-end-2 : goal.slice_bounds-answer_hull-end-2
-slice_bounds-answer_hull-end-2 c = sym (length-take-le _ _ c.at_most-marks_length.ensures)
+slice_bounds-answer_hull-end-2 g c = sym (length-take-le _ _ c.at_most-marks_length.ensures)

@@ -4,4 +4,4 @@ use lib.Seq.{length-take-le}
 use Rattle.insertion_cases.proofs.next_case.Goals as goal
 
 pub slice_bounds-answer_case-end : goal.slice_bounds-answer_case-end
-slice_bounds-answer_case-end c = sym (length-take-le _ _ c.read_list-a.ensures)
+slice_bounds-answer_case-end g c = sym (length-take-le _ _ c.read_list-a.ensures)

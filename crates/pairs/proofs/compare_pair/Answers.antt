@@ -4,7 +4,7 @@ use lib.Seq.{length-take-le}
 use Rattle.pairs.proofs.compare_pair.Goals as goal
 
 pub slice_bounds-compare_each-end : goal.slice_bounds-compare_each-end
-slice_bounds-compare_each-end c = sym (length-take-le _ _ c.read_list-a.ensures)
+slice_bounds-compare_each-end g c = sym (length-take-le _ _ c.read_list-a.ensures)
 
 pub slice_bounds-compare_each-end-2 : goal.slice_bounds-compare_each-end-2
-slice_bounds-compare_each-end-2 c = sym (length-take-le _ _ c.read_list-b.ensures)
+slice_bounds-compare_each-end-2 g c = sym (length-take-le _ _ c.read_list-b.ensures)

@@ -4,7 +4,7 @@ use lib.ListN.{length}
 use Rattle.pairs.proofs.compare_pairs.Given as goal
 
 abbrev pub invariant-loop-place : goal.invariant-loop-place
-invariant-loop-place l = Unit {0}
+invariant-loop-place g l = Unit {0}
 
 abbrev pub decreases-loop-place : goal.decreases-loop-place
-decreases-loop-place l = length l.s - l.place
+decreases-loop-place g l = length l.s - l.place

@@ -4,4 +4,4 @@ use lib.Seq.{length-take-le}
 use Rattle.record_cases.proofs.answer_case.Goals as goal
 
 pub slice_bounds-c_compare_records-end : goal.slice_bounds-c_compare_records-end
-slice_bounds-c_compare_records-end c = sym (length-take-le _ _ c.at_most-length.ensures)
+slice_bounds-c_compare_records-end g c = sym (length-take-le _ _ c.at_most-length.ensures)

@@ -3,7 +3,7 @@ use Prim.Native.Nat.{◌-◌}
 use Rattle.record_cases.proofs.answer_cases.Given as goal
 
 abbrev pub invariant-loop : goal.invariant-loop
-invariant-loop l = Unit {0}
+invariant-loop g l = Unit {0}
 
 abbrev pub decreases-loop : goal.decreases-loop
-decreases-loop l = l.end - l.counter
+decreases-loop g l = l.end - l.counter

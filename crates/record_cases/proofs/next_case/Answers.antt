@@ -5,4 +5,4 @@ use lib.Seq.{length-take-le}
 use Rattle.record_cases.proofs.next_case.Goals as goal
 
 pub slice_bounds-answer_store-end : goal.slice_bounds-answer_store-end
-slice_bounds-answer_store-end c = sym (length-take-le _ _ (omega (arith, c.at_most-count.ensures, c.room-store.ensures)))
+slice_bounds-answer_store-end g c = sym (length-take-le _ _ (omega (arith, c.at_most-count.ensures, c.room-store.ensures)))

@@ -3,7 +3,7 @@ use Rattle.answer_text.proofs.AppendedLaws.{empty-text, longer-text}
 use Rattle.case_lines.proofs.comparison.print_corner_gap.Goals as goal
 
 pub write-requires : goal.write-requires
-write-requires c =
+write-requires g c =
     let empty = empty-text c.empty.ensures in
     let first = longer-text _ _ c.bytes.ensures empty in
     let corner = longer-text _ _ c.corner-t.ensures first in

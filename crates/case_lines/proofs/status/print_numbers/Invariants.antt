@@ -5,7 +5,7 @@ use lib.ListN.{length}
 use Rattle.case_lines.proofs.status.print_numbers.Given as goal
 
 abbrev pub invariant-loop-i : goal.invariant-loop-i
-invariant-loop-i l = l.i-end ≡ length l.s
+invariant-loop-i g l = l.i-end ≡ length l.s
 
 abbrev pub decreases-loop-i : goal.decreases-loop-i
-decreases-loop-i l = l.i-end - l.i
+decreases-loop-i g l = l.i-end - l.i
