@@ -9,7 +9,6 @@ use Rattle.hausdorff.specs.declared.CornerGap.{CornerGap}
 use Rattle.hausdorff.specs.declared.Spent.{Spent}
 use Rattle.hausdorff.specs.declared.Done.{Done}
 use Rattle.hausdorff.specs.declared.Report.{Report}
-use Rattle.hausdorff.specs.declared.Report.TheVariants as Report
 use Rattle.hausdorff.specs.CornerGap.{worse, overall}
 use Rattle.hausdorff.specs.Law.{or_within}
 use Rattle.hausdorff.specs.code.Report.{clearance}

@@ -25,7 +25,6 @@ use Rattle.hausdorff.specs.code.Sweep.{worst_after}
 use Rattle.hausdorff.proofs.WorstLaws.{WorstOf, worst-after}
 use Rattle.measuring.specs.declared.Window.{Window}
 use Rattle.measuring.specs.declared.LocalFeature.{LocalFeature}
-use Rattle.measuring.specs.declared.LocalFeature.TheVariants as LocalFeature
 use Rattle.measuring.specs.Window.{window_at, IsWindow}
 use Rattle.measuring.specs.LocalFeature.{local_values}
 use Rattle.measuring.specs.Changes.{BoundedWorst}

@@ -31,7 +31,6 @@ use Rattle.outline.specs.Corners.{corner, next, previous}
 use Rattle.outline.proofs.EdgeLaws.{accepted-polygon, length-above-0}
 use Rattle.outline.proofs.CornersLaws.{next-below, previous-below, next-previous, previous-next}
 use Rattle.nearest.specs.declared.Feature.{Feature}
-use Rattle.nearest.specs.declared.Feature.TheVariants as Feature
 use Rattle.projection.specs.declared.local.Part.{Part}
 use Rattle.projection.specs.declared.local.Part.TheVariants.{None, Start, Between, End}
 use Rattle.nearest.specs.code.Local.{along, squared_length, foot_is_between, edge_is_nearest, is_corner, is_edge, Tested}

@@ -12,7 +12,6 @@ use Rattle.nearest.specs.code.Given.{FeatureBelow}
 use Rattle.measuring.specs.declared.Window.{Window}
 use Rattle.measuring.specs.Window.{IsWindow}
 use Rattle.measuring.specs.declared.LocalFeature.{LocalFeature}
-use Rattle.measuring.specs.declared.LocalFeature.TheVariants as LocalFeature
 use Rattle.measuring.specs.LocalFeature.{local_values}
 
 pub record WindowInRange (w : Window) : Type 0 where

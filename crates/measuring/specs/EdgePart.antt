@@ -8,7 +8,6 @@ use Rattle.plane.specs.code.Tests.{is_left, is_right}
 use Rattle.projection.specs.declared.local.Part.{Part}
 use Rattle.projection.specs.declared.local.Part.TheVariants.{None, Start, Between, End}
 use Rattle.measuring.specs.declared.LocalFeature.{LocalFeature}
-use Rattle.measuring.specs.declared.LocalFeature.TheVariants as LocalFeature
 
 -- v, whose foot is not before the end of an edge, is nearest to this end: on the edge between `end` and `beyond` the
 -- foot is not past `end` either, and v is strictly right of that edge or of the first (`right`). `is_after`: it is the

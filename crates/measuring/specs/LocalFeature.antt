@@ -4,7 +4,6 @@ use Rattle.std.specs.Prelude.{ℕ, Bool, true, false, cond, List}
 use Rattle.plane.specs.declared.Corner.{Corner}
 use Rattle.outline.specs.Corners.{next, previous}
 use Rattle.nearest.specs.declared.Feature.{Feature}
-use Rattle.nearest.specs.declared.Feature.TheVariants as Feature
 use Rattle.nearest.specs.declared.NearestPoint.{NearestPoint}
 use Rattle.nearest.specs.Feature.{within_values, corner_values, edge_values}
 use Rattle.nearest.specs.Given.{given_nearest}
@@ -17,7 +16,6 @@ use Rattle.hausdorff.specs.code.Counting.{is_counted}
 use Rattle.hausdorff.specs.CornerGap.{with_corner}
 use Rattle.measuring.specs.declared.Window.{Window}
 use Rattle.measuring.specs.declared.LocalFeature.{LocalFeature}
-use Rattle.measuring.specs.declared.LocalFeature.TheVariants as LocalFeature
 
 -- v's nearest feature in an outline with support corner b, if v counts; else Within
 abbrev pub counted_feature : List Corner → ℕ → Corner → Feature

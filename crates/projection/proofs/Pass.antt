@@ -40,7 +40,6 @@ use Rattle.outline.specs.Corners.{corner, next, previous}
 use Rattle.outline.proofs.EdgeLaws.{accepted-polygon}
 use Rattle.outline.proofs.CornersLaws.{before-below, after-below, previous-below, next-suc, next-previous, previous-next}
 use Rattle.nearest.specs.declared.Feature.{Feature}
-use Rattle.nearest.specs.declared.Feature.TheVariants as Feature
 use Rattle.nearest.specs.declared.NearestPoint.{NearestPoint}
 use Rattle.projection.specs.declared.EdgeAnswer.{EdgeAnswer}
 use Rattle.projection.specs.declared.EdgeAnswer.TheVariants.{NotHere, Here}

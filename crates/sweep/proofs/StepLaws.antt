@@ -20,7 +20,6 @@ use Rattle.outline.specs.Corners.{corner}
 use Rattle.outline.proofs.EdgeLaws.{accepted-polygon}
 use Rattle.outline.proofs.CornersLaws.{next-previous}
 use Rattle.nearest.specs.declared.Feature.{Feature}
-use Rattle.nearest.specs.declared.Feature.TheVariants as Feature
 use Rattle.nearest.specs.Feature.{values}
 use Rattle.nearest.specs.code.Local.{feature, nearest}
 use Rattle.outline.specs.declared.Orientation.{Orientation}
@@ -49,7 +48,6 @@ use Rattle.sweep.specs.declared.SideState.{SideState}
 use Rattle.sweep.specs.declared.State.{State}
 use Rattle.measuring.specs.declared.Window.{Window}
 use Rattle.measuring.specs.declared.LocalFeature.{LocalFeature}
-use Rattle.measuring.specs.declared.LocalFeature.TheVariants as LocalFeature
 use Rattle.measuring.specs.Window.{window_at, given_number, IsWindow}
 use Rattle.measuring.specs.Changes.{BoundedWorst}
 use Rattle.measuring.specs.LocalFeature.{feature_of, counted_feature, is_not_counted, local_values, local_worst, local_given}

@@ -14,12 +14,9 @@ use Rattle.outline.specs.code.Either.{orientation_of, held_corners, either_readi
 use Rattle.outline.specs.code.Reading.{reading}
 use Rattle.outline.specs.Corners.{corners, held}
 use Rattle.hull.specs.declared.HullAnswer.{HullAnswer}
-use Rattle.hull.specs.declared.HullAnswer.TheVariants as HullAnswer
 use Rattle.hull.specs.code.Call.{hull_answer, hull_list, hull_marks}
 use Rattle.nearest.specs.declared.NearestAnswer.{NearestAnswer}
-use Rattle.nearest.specs.declared.NearestAnswer.TheVariants as NearestAnswer
 use Rattle.nearest.specs.declared.Feature.{Feature}
-use Rattle.nearest.specs.declared.Feature.TheVariants as Feature
 use Rattle.nearest.specs.declared.NearestPoint.{NearestPoint}
 use Rattle.nearest.specs.Given.{given_nearest}
 use Rattle.nearest.specs.code.Call.{nearest_answer}
@@ -32,14 +29,12 @@ use Rattle.hausdorff.specs.declared.CornerGap.{CornerGap}
 use Rattle.hausdorff.specs.declared.WorstSoFar.{WorstSoFar}
 use Rattle.hausdorff.specs.declared.WorstSoFar.TheVariants.{None, Worst}
 use Rattle.hausdorff.specs.declared.Comparison.{Comparison}
-use Rattle.hausdorff.specs.declared.Comparison.TheVariants as Comparison
 use Rattle.hausdorff.specs.declared.Report.TheVariants as Report
 use Rattle.hausdorff.specs.AngularOrder.{PairEdge, angular_order}
 use Rattle.hausdorff.specs.Exhaustive.{exhaustive_of, exhaustive}
 use Rattle.hausdorff.specs.Given.{given_gap}
 use Rattle.hausdorff.specs.code.Call.{orientations, pair_of, comparison}
 use Rattle.mismatch.specs.declared.MismatchAnswer.{MismatchAnswer}
-use Rattle.mismatch.specs.declared.MismatchAnswer.TheVariants as MismatchAnswer
 use Rattle.mismatch.specs.code.Call.{mismatch_answer}
 use Rattle.records.specs.code.Call.{records_comparison}
 

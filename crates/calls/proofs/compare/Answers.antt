@@ -11,13 +11,13 @@ compare-report-requires c =
 pub returns-in-Refused : goal.returns-in-Refused
 returns-in-Refused c =
     let promised =
-      call-promises _ _ _
-      (call-refused _ _ _ c.check_pair.ensures c.in-Refused.is) in
+    call-promises _ _ _
+    (call-refused _ _ _ c.check_pair.ensures c.in-Refused.is) in
     record { answer = promised.0; rules = promised.1 }
 
 pub returns-in-Taken : goal.returns-in-Taken
 returns-in-Taken c =
     let promised =
-      call-promises _ _ _
-      (call-reported _ _ _ c.check_pair.ensures c.in-Taken.is c.compare-report.ensures) in
+    call-promises _ _ _
+    (call-reported _ _ _ c.check_pair.ensures c.in-Taken.is c.compare-report.ensures) in
     record { answer = promised.0; rules = promised.1 }

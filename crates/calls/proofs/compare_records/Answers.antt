@@ -36,13 +36,13 @@ slice_bounds-compare-end-in-Ended c = rw length-take (omega (arith, slice_bounds
 pub returns-in-Refused : goal.returns-in-Refused
 returns-in-Refused c =
     let promised =
-      call-promises _ _ _ _ (sym ((records-refuses _ _ _ _ _).1
-      (rw c.in-Refused.is at (chains _ _ _ _ c.ranges.a_start c.ranges.b_start c.read_chains.ensures)))) in
+    call-promises _ _ _ _ (sym ((records-refuses _ _ _ _ _).1
+    (rw c.in-Refused.is at (chains _ _ _ _ c.ranges.a_start c.ranges.b_start c.read_chains.ensures)))) in
     record { answer = promised.0; rules = promised.1 }
 
 pub returns-in-Ended : goal.returns-in-Ended
 returns-in-Ended c =
     let promised =
-      call-promises _ _ _ _ (c.compare.ensures.answer
-      ∙ chains-compared _ _ _ _ (rw c.in-Ended.is at (chains _ _ _ _ c.ranges.a_start c.ranges.b_start c.read_chains.ensures))) in
+    call-promises _ _ _ _ (c.compare.ensures.answer
+    ∙ chains-compared _ _ _ _ (rw c.in-Ended.is at (chains _ _ _ _ c.ranges.a_start c.ranges.b_start c.read_chains.ensures))) in
     record { answer = promised.0; rules = promised.1 }

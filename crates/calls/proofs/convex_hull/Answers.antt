@@ -38,7 +38,7 @@ module _ (s : List ℤ) {room places : ℕ} (may : PermittedPoints s room places
 pub returns-in-Refused : goal.returns-in-Refused
 returns-in-Refused c =
     let promised =
-      refused-promises _ _ _ (points-refused _ _ _ c.check_points.ensures c.in-Refused.is) in
+    refused-promises _ _ _ (points-refused _ _ _ c.check_points.ensures c.in-Refused.is) in
     record { answer = promised.0; list = promised.1.0; marked = promised.1.1.0; rules = promised.1.1.1 }
 
 pub convex_hull-count-requires : goal.convex_hull-count-requires
@@ -50,8 +50,8 @@ convex_hull-count-requires c =
 pub returns-then-count-lt-FEWEST : goal.returns-then-count-lt-FEWEST
 returns-then-count-lt-FEWEST c =
     let promised =
-      refused-promises _ _ _ (points-short _ _ _ c.check_points.ensures
-      c.in_default.is c.convex_hull-count.ensures.count c.if-count-lt-FEWEST.true) in
+    refused-promises _ _ _ (points-short _ _ _ c.check_points.ensures
+    c.in_default.is c.convex_hull-count.ensures.count c.if-count-lt-FEWEST.true) in
     record { answer = promised.0; list = promised.1.0; marked = promised.1.1.0; rules = promised.1.1.1 }
 
 pub overflow_mul-hull : goal.overflow_mul-hull
@@ -89,9 +89,9 @@ pub returns : goal.returns
 returns c =
     let may = points-permit _ _ _ c.check_points.ensures c.in_default.is in
     let promised =
-      made-promises _ _ _ (points-made _ _ _ c.check_points.ensures
-      c.in_default.is c.convex_hull-count.ensures.count
-      c.if-count-lt-FEWEST.false)
-      c.convex_hull-count.ensures.count (written _ may c.convex_hull-count.ensures c.fill.ensures)
-      (marked _ may c.convex_hull-count.ensures c.write_marks.ensures) in
+    made-promises _ _ _ (points-made _ _ _ c.check_points.ensures
+    c.in_default.is c.convex_hull-count.ensures.count
+    c.if-count-lt-FEWEST.false)
+    c.convex_hull-count.ensures.count (written _ may c.convex_hull-count.ensures c.fill.ensures)
+    (marked _ may c.convex_hull-count.ensures c.write_marks.ensures) in
     record { answer = promised.0; list = promised.1.0; marked = promised.1.1.0; rules = promised.1.1.1 }

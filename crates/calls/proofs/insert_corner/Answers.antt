@@ -9,7 +9,7 @@ returns-in-Refused c =
     let refuses = sym c.check_insertion.ensures ∙ c.in-Refused.is in
     let out = c.args.out.now in
     let promised =
-      insertion-promises _ _ _ out (sym refuses) (sym (list-refused _ out refuses)) in
+    insertion-promises _ _ _ out (sym refuses) (sym (list-refused _ out refuses)) in
     record { answer = promised.0; list = promised.1.0; rules = promised.1.1 }
 
 pub write_with-requires : goal.write_with-requires
@@ -22,5 +22,5 @@ returns c =
     ∙ c.in_default.is in
     let out = c.args.out.now in
     let promised =
-      insertion-promises _ _ _ out (sym takes) (c.write_with.ensures ∙ sym (list-taken _ out takes)) in
+    insertion-promises _ _ _ out (sym takes) (c.write_with.ensures ∙ sym (list-taken _ out takes)) in
     record { answer = promised.0; list = promised.1.0; rules = promised.1.1 }

@@ -12,13 +12,13 @@ mismatch_sum-sum-requires c =
 pub returns-in-Refused : goal.returns-in-Refused
 returns-in-Refused c =
     let promised =
-      call-promises _ _
-      (call-refused _ _ c.check_pair.ensures c.in-Refused.is) in
+    call-promises _ _
+    (call-refused _ _ c.check_pair.ensures c.in-Refused.is) in
     record { answer = promised.0; rules = promised.1 }
 
 pub returns-in-Taken : goal.returns-in-Taken
 returns-in-Taken c =
     let promised =
-      call-promises _ _
-      (call-summed _ _ c.check_pair.ensures c.in-Taken.is c.mismatch_sum-sum.ensures) in
+    call-promises _ _
+    (call-summed _ _ c.check_pair.ensures c.in-Taken.is c.mismatch_sum-sum.ensures) in
     record { answer = promised.0; rules = promised.1 }

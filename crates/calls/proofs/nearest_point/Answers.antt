@@ -8,15 +8,15 @@ use Rattle.calls.proofs.nearest_point.Goals as goal
 pub returns-in-Refused : goal.returns-in-Refused
 returns-in-Refused c =
     let promised =
-      call-promises _ _
-      (call-refused _ _ c.check_either.ensures c.in-Refused.is) in
+    call-promises _ _
+    (call-refused _ _ c.check_either.ensures c.in-Refused.is) in
     record { answer = promised.0; rules = promised.1 }
 
 pub returns-then-not-in_range : goal.returns-then-not-in_range
 returns-then-not-in_range c =
     let promised =
-      call-promises _ _ (call-out-of-range _ _ c.check_either.ensures c.in_default.is
-      (ap not (rw c.in_range.ensures at c.if-not-in_range.true))) in
+    call-promises _ _ (call-out-of-range _ _ c.check_either.ensures c.in_default.is
+    (ap not (rw c.in_range.ensures at c.if-not-in_range.true))) in
     record { answer = promised.0; rules = promised.1 }
 
 pub orientation-orientation-requires : goal.orientation-orientation-requires
@@ -27,8 +27,8 @@ orientation-orientation-requires c =
 pub nearest-nearest-requires : goal.nearest-nearest-requires
 nearest-nearest-requires c =
     let (ok, v-in) =
-      call_asks _ _ c.check_either.ensures c.in_default.is c.orientation-orientation.ensures
-      (ap not (rw c.in_range.ensures at c.if-not-in_range.false)) in
+    call_asks _ _ c.check_either.ensures c.in_default.is c.orientation-orientation.ensures
+    (ap not (rw c.in_range.ensures at c.if-not-in_range.false)) in
     record { accepted_as = ok; in_range = v-in }
 
 pub given_nearest-requires : goal.given_nearest-requires
@@ -39,7 +39,7 @@ given_nearest-requires c =
 pub returns : goal.returns
 returns c =
     let promised =
-      call-promises _ _ (call-found _ _ c.check_either.ensures c.in_default.is
-      c.orientation-orientation.ensures (ap not (rw c.in_range.ensures at c.if-not-in_range.false))
-      c.nearest-nearest.ensures c.count.ensures c.given_nearest.ensures) in
+    call-promises _ _ (call-found _ _ c.check_either.ensures c.in_default.is
+    c.orientation-orientation.ensures (ap not (rw c.in_range.ensures at c.if-not-in_range.false))
+    c.nearest-nearest.ensures c.count.ensures c.given_nearest.ensures) in
     record { answer = promised.0; rules = promised.1 }

@@ -9,7 +9,7 @@ returns-in-Refused c =
     let refuses = sym c.check_removal.ensures ∙ c.in-Refused.is in
     let out = c.args.out.now in
     let promised =
-      removal-promises _ _ out (sym refuses) (sym (list-refused _ out refuses)) in
+    removal-promises _ _ out (sym refuses) (sym (list-refused _ out refuses)) in
     record { answer = promised.0; list = promised.1.0; rules = promised.1.1 }
 
 pub write_without-requires : goal.write_without-requires
@@ -22,5 +22,5 @@ returns c =
     ∙ c.in_default.is in
     let out = c.args.out.now in
     let promised =
-      removal-promises _ _ out (sym takes) (c.write_without.ensures ∙ sym (list-taken _ out takes)) in
+    removal-promises _ _ out (sym takes) (c.write_without.ensures ∙ sym (list-taken _ out takes)) in
     record { answer = promised.0; list = promised.1.0; rules = promised.1.1 }

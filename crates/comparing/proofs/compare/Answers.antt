@@ -1,6 +1,5 @@
 -- `comparing::compare` makes the steps that are allowed, at most all, and reports.
 use borrow.Author.Tests.{le-ltb, lt-ltb}
-use mathlib.Core.Logic.{⊎_elim}
 use native.Mathlib.Omega.{arith}
 use Rattle.comparing.proofs.CompareLaws.{counts-fit, counts-total, listed-reportable, compare-reports}
 use Rattle.comparing.proofs.compare.Goals as goal

@@ -49,8 +49,8 @@ is_right-right_after-requires c =
 pub edge_part-part_before-requires : goal.edge_part-part_before-requires
 edge_part-part_before-requires c =
     let are =
-      spans c.requires.in_range c.requires.window c.difference-to.ensures c.difference-run_before.ensures
-      c.difference-run_after.ensures in
+    spans c.requires.in_range c.requires.window c.difference-to.ensures c.difference-run_before.ensures
+    c.difference-run_after.ensures in
     let range = window-range c.requires.window in
     record {
       in_range = c.requires.in_range;
@@ -63,8 +63,8 @@ edge_part-part_before-requires c =
 pub edge_part-part_after-requires : goal.edge_part-part_after-requires
 edge_part-part_after-requires c =
     let are =
-      spans c.requires.in_range c.requires.window c.difference-to.ensures c.difference-run_before.ensures
-      c.difference-run_after.ensures in
+    spans c.requires.in_range c.requires.window c.difference-to.ensures c.difference-run_before.ensures
+    c.difference-run_after.ensures in
     let range = window-range c.requires.window in
     record {
       in_range = c.requires.in_range;
@@ -79,8 +79,8 @@ returns c =
     let right-before = rw c.difference-run_before.ensures at c.is_left-right_before.ensures in
     let right-after = rw c.difference-run_after.ensures at c.is_right-right_after.ensures in
     let part-before =
-      rw (c.difference-run_before.ensures, c.difference-to.ensures, right-before) at c.edge_part-part_before.ensures in
+    rw (c.difference-run_before.ensures, c.difference-to.ensures, right-before) at c.edge_part-part_before.ensures in
     let part-after =
-      rw (c.difference-run_after.ensures, c.difference-to.ensures, right-after) at c.edge_part-part_after.ensures in
+    rw (c.difference-run_after.ensures, c.difference-to.ensures, right-after) at c.edge_part-part_after.ensures in
     rw (c.by_parts.ensures, c.corner_if.ensures)
     (by_parts-window c.args.v part-after part-before right-after right-before)

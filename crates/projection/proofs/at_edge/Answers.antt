@@ -69,9 +69,9 @@ held_corner-after-requires c =
 pub nearest_part-requires : goal.nearest_part-requires
 nearest_part-requires c =
     let turn =
-      turn_at c.requires.accepted_as c.count-n.ensures c.requires.edge_vectors.known c.next-j.ensures
-      c.previous.ensures c.next.ensures c.held_corner-before.ensures c.held_corner-p.ensures c.held_corner-q.ensures
-      c.held_corner-after.ensures in
+    turn_at c.requires.accepted_as c.count-n.ensures c.requires.edge_vectors.known c.next-j.ensures
+    c.previous.ensures c.next.ensures c.held_corner-before.ensures c.held_corner-p.ensures c.held_corner-q.ensures
+    c.held_corner-after.ensures in
     let (before, (p, (q, after))) = turn-range turn in
     record {
       in_range = c.requires.in_range;
@@ -85,25 +85,25 @@ nearest_part-requires c =
 pub at_corner-requires : goal.at_corner-requires
 at_corner-requires c =
     let (before, (p, (q, after))) =
-      turn-range (turn_at c.requires.accepted_as c.count-n.ensures c.requires.edge_vectors.known c.next-j.ensures
-      c.previous.ensures c.next.ensures c.held_corner-before.ensures c.held_corner-p.ensures c.held_corner-q.ensures
-      c.held_corner-after.ensures) in
+    turn-range (turn_at c.requires.accepted_as c.count-n.ensures c.requires.edge_vectors.known c.next-j.ensures
+    c.previous.ensures c.next.ensures c.held_corner-before.ensures c.held_corner-p.ensures c.held_corner-q.ensures
+    c.held_corner-after.ensures) in
     record { in_range = c.requires.in_range; in_range_2 = p }
 
 pub on_edge-requires : goal.on_edge-requires
 on_edge-requires c =
     let (before, (p, (q, after))) =
-      turn-range (turn_at c.requires.accepted_as c.count-n.ensures c.requires.edge_vectors.known c.next-j.ensures
-      c.previous.ensures c.next.ensures c.held_corner-before.ensures c.held_corner-p.ensures c.held_corner-q.ensures
-      c.held_corner-after.ensures) in
+    turn-range (turn_at c.requires.accepted_as c.count-n.ensures c.requires.edge_vectors.known c.next-j.ensures
+    c.previous.ensures c.next.ensures c.held_corner-before.ensures c.held_corner-p.ensures c.held_corner-q.ensures
+    c.held_corner-after.ensures) in
     record { in_range = c.requires.in_range; in_range_2 = p; in_range_3 = q }
 
 pub at_corner-requires-in-End : goal.at_corner-requires-in-End
 at_corner-requires-in-End c =
     let (before, (p, (q, after))) =
-      turn-range (turn_at c.requires.accepted_as c.count-n.ensures c.requires.edge_vectors.known c.next-j.ensures
-      c.previous.ensures c.next.ensures c.held_corner-before.ensures c.held_corner-p.ensures c.held_corner-q.ensures
-      c.held_corner-after.ensures) in
+    turn-range (turn_at c.requires.accepted_as c.count-n.ensures c.requires.edge_vectors.known c.next-j.ensures
+    c.previous.ensures c.next.ensures c.held_corner-before.ensures c.held_corner-p.ensures c.held_corner-q.ensures
+    c.held_corner-after.ensures) in
     record { in_range = c.requires.in_range; in_range_2 = q }
 
 pub returns-in-None : goal.returns-in-None

@@ -6,8 +6,6 @@ use lib.Dec.{lit<}
 use Rattle.plane.specs.declared.Corner.{Corner}
 use Rattle.plane.specs.declared.Vector.{Vector}
 use Rattle.plane.specs.Vector.{◌⇀◌}
-use Rattle.outline.specs.Corners.{corners, corner}
-use Rattle.outline.specs.Orientation.{as_held}
 use Rattle.outline.proofs.CornersLaws.{after-below}
 use Rattle.outline.proofs.EitherLaws.{accepted-held}
 use Rattle.outline.proofs.OrientationLaws.{held-length}
@@ -36,7 +34,7 @@ at_edge-requires c =
       accepted_as = c.requires.accepted_as;
       in_range = c.requires.in_range;
       edge_vectors = pass-vectors c.loop-i.invariant c.loop-i-test.true c.next.ensures
-      (end_is _ _ c.difference-to_end.ensures c.held_corner-in-loop-i.ensures);
+          (end_is _ _ c.difference-to_end.ensures c.held_corner-in-loop-i.ensures);
     }
 
 pub returns-in-Here : goal.returns-in-Here

@@ -42,15 +42,15 @@ module _ {run to : Vector} {l t s r : ℤ} (run_in : Span reach run) (to_in : Sp
 pub coordinate-requires : goal.coordinate-requires
 coordinate-requires c =
     let (length, (start, (along, run))) =
-      asked c.requires.span c.requires.span_2 c.squared_length-length.ensures c.dot-along.ensures
-      c.requires.in_range.x_size c.requires.span.x_size in
+    asked c.requires.span c.requires.span_2 c.squared_length-length.ensures c.dot-along.ensures
+    c.requires.in_range.x_size c.requires.span.x_size in
     record { at_most = length; at_most_2 = start; at_most_3 = along; at_most_4 = run }
 
 pub coordinate-requires-2 : goal.coordinate-requires-2
 coordinate-requires-2 c =
     let (length, (start, (along, run))) =
-      asked c.requires.span c.requires.span_2 c.squared_length-length.ensures c.dot-along.ensures
-      c.requires.in_range.y_size c.requires.span.y_size in
+    asked c.requires.span c.requires.span_2 c.squared_length-length.ensures c.dot-along.ensures
+    c.requires.in_range.y_size c.requires.span.y_size in
     record { at_most = length; at_most_2 = start; at_most_3 = along; at_most_4 = run }
 
 pub overflow_cast-result : goal.overflow_cast-result

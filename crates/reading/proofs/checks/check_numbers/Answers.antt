@@ -12,7 +12,6 @@ use Rattle.outline.specs.code.Checks.{first}
 use Rattle.outline.specs.code.Reading.{length_checks, check_range}
 use Rattle.outline.proofs.ChecksLaws.{first-last, append-stops, append-goes-on}
 use Rattle.reading.specs.Numbers.{check_numbers}
-use Rattle.reading.proofs.checks.check_numbers.Goals as goal
 
 module _ (whose : RefusedSide) (s : List ℤ) {u : Verdict} (is : u ≡ first (length_checks whose s)) where
   by_length : {r : Refusal} → u ≡ Refused r → Refused r ≡ check_numbers whose s

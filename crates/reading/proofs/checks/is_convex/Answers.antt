@@ -1,5 +1,4 @@
 -- `reading::checks::is_convex` visits the corners in order and tests each by its visit and that of the corner before.
-use mathlib.Core.Bool.{true, false}
 use mathlib.Core.Path.{◌≡◌, sym, ◌∙◌}
 use native.Mathlib.Omega.{arith}
 use Prim.Native.Nat.{◌-◌}
@@ -9,7 +8,6 @@ use Rattle.outline.specs.code.Turns.{is_convex}
 use Rattle.outline.proofs.OrientationLaws.{held-length, held-range}
 use Rattle.lists.specs.Fold.{fold}
 use Rattle.lists.proofs.FoldLaws.{pass_all}
-use Rattle.reading.specs.Visit.{keeps_left_by}
 use Rattle.reading.proofs.VisitLaws.{begins, in_reach, stops, goes_on}
 use Rattle.reading.proofs.checks.is_convex.Goals as goal
 
@@ -29,7 +27,7 @@ loop-k-init c =
 pub keeps_left_by-requires : goal.keeps_left_by-requires
 keeps_left_by-requires c =
     let (run, (before, here)) =
-      in_reach c.loop-k.invariant (omega arith) c.held_corner-in-loop-k.ensures c.visit_of-visit.ensures in
+    in_reach c.loop-k.invariant (omega arith) c.held_corner-in-loop-k.ensures c.visit_of-visit.ensures in
     record { span = run; in_reach = before; in_reach_2 = here }
 
 pub returns-then-not-keeps_left_by : goal.returns-then-not-keeps_left_by

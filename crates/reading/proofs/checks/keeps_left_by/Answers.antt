@@ -1,6 +1,5 @@
 -- `reading::checks::keeps_left_by` makes the three tests in order.
-use borrow.Author.Tests.{not-true, not-false}
-use mathlib.Core.Bool.{Bool, true, false, not, ◌&&◌}
+use mathlib.Core.Bool.{Bool, true, false, ◌&&◌}
 use mathlib.Core.Path.{◌≡◌}
 use Rattle.reading.proofs.checks.keeps_left_by.Goals as goal
 

@@ -33,8 +33,8 @@ module _ (cs : List Corner) {p q v : Corner} {run : Vector} (is-p : p ≡ corner
 pub is_left-requires : goal.is_left-requires
 is_left-requires c =
     let (run, (from, to)) =
-      in_reach (corners _) c.corner-p.ensures c.corner.ensures c.difference-run.ensures
-      c.corner-2.ensures c.requires.fewest_in_bounds c.requires.all_in_range in
+    in_reach (corners _) c.corner-p.ensures c.corner.ensures c.difference-run.ensures
+    c.corner-2.ensures c.requires.fewest_in_bounds c.requires.all_in_range in
     record { span = run; in_range = from; in_range_2 = to }
 
 pub returns-then-is_left : goal.returns-then-is_left

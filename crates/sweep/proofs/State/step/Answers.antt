@@ -6,7 +6,7 @@ use Rattle.sweep.proofs.StepLaws.{unchanged-after, step_after}
 use Rattle.sweep.proofs.State.step.Goals as goal
 
 pub local_feature-local_a-requires : goal.local_feature-local_a-requires
-local_feature-local_a-requires c = 
+local_feature-local_a-requires c =
     let both = step-measurable c.requires in record { in_range = (window-range both.seen_a).corner; window = both.seen_b }
 
 pub local_feature-local_b-requires : goal.local_feature-local_b-requires
