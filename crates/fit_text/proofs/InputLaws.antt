@@ -31,7 +31,6 @@ use Rattle.outline.specs.Corners.{corners, most}
 use Rattle.outline.specs.code.Reading.{check}
 use Rattle.hausdorff.specs.code.Call.{comparison}
 use Rattle.fit_text.specs.declared.parsing.Found.{Found}
-use Rattle.fit_text.specs.declared.parsing.Found.TheVariants as Found
 use Rattle.fit_text.specs.declared.parsing.Outcome.TheVariants as Outcome
 use Rattle.fit_text.specs.Input.{Given, Numbers, TooMany, Unreadable, put, numbers, outline}
 use Rattle.fit_text.specs.Input.{allowance, too_many, with_b}
