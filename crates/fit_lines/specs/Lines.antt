@@ -12,7 +12,6 @@ use Rattle.hausdorff.specs.declared.Done.{Done}
 use Rattle.hausdorff.specs.declared.Comparison.{Comparison}
 use Rattle.hausdorff.specs.declared.Comparison.TheVariants.{Refused, Reported}
 use Rattle.hausdorff.specs.declared.Report.{Report}
-use Rattle.hausdorff.specs.declared.Report.TheVariants as Report
 use Rattle.answer_text.specs.Parts.{corner_text, feature_text, fraction_text, point_text, refusal_text}
 
 -- rule 8.7: a refusal is one line

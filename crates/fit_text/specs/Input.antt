@@ -7,7 +7,6 @@ use Rattle.text.specs.Words.{words}
 use Rattle.outline.specs.Corners.{most}
 use Rattle.hausdorff.specs.code.Call.{comparison}
 use Rattle.fit_text.specs.declared.parsing.Outcome.{Outcome}
-use Rattle.fit_text.specs.declared.parsing.Outcome.TheVariants as Outcome
 
 -- what words give for one outline
 pub data Given : Type 0 where

@@ -2,7 +2,6 @@
 use Rattle.std.specs.Prelude.{ℕ, List, ℤ, take, drop}
 use Rattle.text.specs.Words.{words}
 use Rattle.fit_text.specs.declared.parsing.Found.{Found}
-use Rattle.fit_text.specs.declared.parsing.Found.TheVariants as Found
 use Rattle.fit_text.specs.Input.{Given, Numbers, TooMany, Unreadable}
 
 -- the same as a `Given`: the first numbers of the list, and the words from a place of the text on
