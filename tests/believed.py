@@ -14,7 +14,7 @@ PROPOSITIONS = [("outline", "EitherReading", "IsEitherReading"), ("outline", "Re
                 ("records", "Call", "IsRecordsComparison")]
 DEFINITION = re.compile(r" *(?=(?:pub )?(?:unfoldable|abbrev|data|record) )(?:(?:unfoldable|abbrev|pub|data|record) )+(\S+)"
                         r"(?: [({][^)}]*[)}])* :(?: |$)")
-IMPORT = re.compile(r"use Rattle·(\w+?)(?:·specs)?\.specs\.([\w.]+)\.\{([^}]*)\}")
+IMPORT = re.compile(r"use Rattle\.((?!std\b)\w+)\.specs\.([\w.]+)\.\{([^}]*)\}")
 
 
 def read(crate, module):
@@ -51,7 +51,7 @@ def main():
         if module.startswith("code") or name in bare:
             errors.append(key)
         for word in set(re.findall(r"[^\s(){};,.λ]+", "\n".join(lines[name]))):
-            for cited in (word, "_%s_" % word):
+            for cited in (word, "◌%s◌" % word):
                 if cited in lines:
                     todo.append((crate, module, cited))
                 elif cited in imports:
