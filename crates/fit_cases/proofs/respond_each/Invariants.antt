@@ -3,8 +3,5 @@ use Prim.Native.Nat.{◌-◌}
 use lib.ListN.{length}
 use Rattle.fit_cases.proofs.respond_each.Given as goal
 
-abbrev pub invariant-loop-from : goal.invariant-loop-from
-invariant-loop-from g l = Unit {0}
-
 abbrev pub decreases-loop-from : goal.decreases-loop-from
 decreases-loop-from g l = length l.s - l.from

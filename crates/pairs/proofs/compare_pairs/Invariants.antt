@@ -3,8 +3,5 @@ use Prim.Native.Nat.{◌-◌}
 use lib.ListN.{length}
 use Rattle.pairs.proofs.compare_pairs.Given as goal
 
-abbrev pub invariant-loop-place : goal.invariant-loop-place
-invariant-loop-place g l = Unit {0}
-
 abbrev pub decreases-loop-place : goal.decreases-loop-place
 decreases-loop-place g l = length l.s - l.place
