@@ -1,5 +1,7 @@
 -- What the calls return and leave in a result list, by its length and by what the wrapped call answers.
 --     length-wrong, length-right    the result list has the wrong length, or the right one
+--     compare-wrong, records-wrong, nearest-wrong, mismatch-wrong, hull-wrong    the wrong one, of each call
+--     compare-right, records-right, nearest-right, mismatch-right, hull-right    the right one
 --     lists-kept, lists-written     the lists for corners and marks, of the convex hull
 --     answered-alike                comparing chains is answered as comparing the lists of their corners
 -- Where the code is not that of an answer, no list was written:
@@ -21,7 +23,6 @@ use lib.ListN.{length}
 use Rattle.plane.specs.declared.Corner.{Corner}
 use Rattle.outline.specs.declared.Refusal.{Refusal}
 use Rattle.outline.specs.declared.Verdict.{Verdict}
-use Rattle.outline.specs.declared.Verdict.TheVariants as Verdict
 use Rattle.outline.specs.code.Checks.{if_taken}
 use Rattle.outline.specs.Corners.{corners, corner}
 use Rattle.outline.proofs.ChecksLaws.{taken≢refused}
@@ -32,12 +33,11 @@ use Rattle.edit.specs.Insertion.{insertion_conditions}
 use Rattle.edit.specs.code.Insertion.{insertion_verdict, insertion_list}
 use Rattle.edit.proofs.Insertion.{insertion-refused}
 use Rattle.edit.proofs.RoundTrip.{remove-insert, insert-remove}
-use Rattle.hull.specs.declared.HullAnswer.TheVariants as HullAnswer
+use Rattle.hull.specs.declared.HullAnswer.{HullAnswer}
 use Rattle.hull.specs.Call.{hull_conditions}
 use Rattle.hull.specs.code.Call.{check_hull, answer_for, hull_answer, hull_list, hull_marks}
 use Rattle.hull.proofs.CallLaws.{hull-refuses}
 use Rattle.nearest.specs.declared.NearestAnswer.{NearestAnswer}
-use Rattle.nearest.specs.declared.NearestAnswer.TheVariants as NearestAnswer
 use Rattle.nearest.specs.Call.{nearest_conditions}
 use Rattle.nearest.specs.code.Call.{nearest_answer}
 use Rattle.nearest.proofs.CallLaws.{nearest-refuses}
@@ -47,7 +47,6 @@ use Rattle.hausdorff.specs.Call.{pair_conditions}
 use Rattle.hausdorff.specs.code.Call.{comparison}
 use Rattle.hausdorff.proofs.CallLaws.{compare-refuses}
 use Rattle.mismatch.specs.declared.MismatchAnswer.{MismatchAnswer}
-use Rattle.mismatch.specs.declared.MismatchAnswer.TheVariants as MismatchAnswer
 use Rattle.mismatch.specs.code.Call.{mismatch_answer}
 use Rattle.mismatch.proofs.CallLaws.{mismatch-refuses}
 use Rattle.encoding.specs.declared.status.Status.{Status}
@@ -87,6 +86,57 @@ module _ {X : Type 0} (long : ℕ) (status_of : X → Status) (list_of : X → L
           → cond right (list_of answer result) result ≡ result
       go true not = by_answer answer not
       go false not = refl
+
+-- so each call, by the length of its result list
+pub compare-wrong : (s t : List ℤ) (allowance : ℕ) (result : List ℤ) → length result ≢ compare_length
+    → (compare_status s t allowance result ≡ wrong_result_length) × (compare_list s t allowance result ≡ result)
+unfolding compare_status compare_list
+compare-wrong s t allowance result = length-wrong compare_length status_of_comparison list_of_comparison (comparison s t allowance) result
+
+pub compare-right : (s t : List ℤ) (allowance : ℕ) (result : List ℤ) → length result ≡ compare_length → {answer : Comparison} → comparison s t allowance ≡ answer
+    → (compare_status s t allowance result ≡ status_of_comparison answer) × (compare_list s t allowance result ≡ list_of_comparison answer result)
+unfolding compare_status compare_list
+compare-right s t allowance result = length-right compare_length status_of_comparison list_of_comparison (comparison s t allowance) result
+
+pub records-wrong : (s : List ℤ) (a b : ℤ) (allowance : ℕ) (result : List ℤ) → length result ≢ compare_length
+    → (compare_records_status s a b allowance result ≡ wrong_result_length) × (compare_records_list s a b allowance result ≡ result)
+unfolding compare_records_status compare_records_list
+records-wrong s a b allowance result = length-wrong compare_length status_of_comparison list_of_comparison (records_comparison s a b allowance) result
+
+pub records-right : (s : List ℤ) (a b : ℤ) (allowance : ℕ) (result : List ℤ) → length result ≡ compare_length → {answer : Comparison} → records_comparison s a b allowance ≡ answer
+    → (compare_records_status s a b allowance result ≡ status_of_comparison answer) × (compare_records_list s a b allowance result ≡ list_of_comparison answer result)
+unfolding compare_records_status compare_records_list
+records-right s a b allowance result = length-right compare_length status_of_comparison list_of_comparison (records_comparison s a b allowance) result
+
+pub nearest-wrong : (x y : ℤ) (s : List ℤ) (result : List ℤ) → length result ≢ nearest_length
+    → (nearest_status x y s result ≡ wrong_result_length) × (nearest_list x y s result ≡ result)
+unfolding nearest_status nearest_list
+nearest-wrong x y s result = length-wrong nearest_length status_of_nearest list_of_nearest (nearest_answer (record { x = x; y = y }) s) result
+
+pub nearest-right : (x y : ℤ) (s : List ℤ) (result : List ℤ) → length result ≡ nearest_length → {answer : NearestAnswer} → nearest_answer (record { x = x; y = y }) s ≡ answer
+    → (nearest_status x y s result ≡ status_of_nearest answer) × (nearest_list x y s result ≡ list_of_nearest answer result)
+unfolding nearest_status nearest_list
+nearest-right x y s result = length-right nearest_length status_of_nearest list_of_nearest (nearest_answer (record { x = x; y = y }) s) result
+
+pub mismatch-wrong : (s t : List ℤ) (result : List ℤ) → length result ≢ mismatch_length
+    → (mismatch_status s t result ≡ wrong_result_length) × (mismatch_list s t result ≡ result)
+unfolding mismatch_status mismatch_list
+mismatch-wrong s t result = length-wrong mismatch_length status_of_mismatch list_of_mismatch (mismatch_answer s t) result
+
+pub mismatch-right : (s t : List ℤ) (result : List ℤ) → length result ≡ mismatch_length → {answer : MismatchAnswer} → mismatch_answer s t ≡ answer
+    → (mismatch_status s t result ≡ status_of_mismatch answer) × (mismatch_list s t result ≡ list_of_mismatch answer result)
+unfolding mismatch_status mismatch_list
+mismatch-right s t result = length-right mismatch_length status_of_mismatch list_of_mismatch (mismatch_answer s t) result
+
+pub hull-wrong : (s out marks : List ℤ) (result : List ℤ) → length result ≢ convex_hull_length
+    → (convex_hull_status s out marks result ≡ wrong_result_length) × (convex_hull_result s out marks result ≡ result)
+unfolding convex_hull_status convex_hull_result
+hull-wrong s out marks result = length-wrong convex_hull_length status_of_hull result_of_hull (hull_answer s out marks) result
+
+pub hull-right : (s out marks : List ℤ) (result : List ℤ) → length result ≡ convex_hull_length → {answer : HullAnswer} → hull_answer s out marks ≡ answer
+    → (convex_hull_status s out marks result ≡ status_of_hull answer) × (convex_hull_result s out marks result ≡ result_of_hull answer result)
+unfolding convex_hull_status convex_hull_result
+hull-right s out marks result = length-right convex_hull_length status_of_hull result_of_hull (hull_answer s out marks) result
 
 -- the lists for the corners of a hull and for the marks, by the length of the result list
 module _ (s out marks result : List ℤ) where

@@ -15,7 +15,6 @@ use Rattle.outline.specs.declared.Side.TheVariants.{A, B}
 use Rattle.hausdorff.specs.declared.WorstSoFar.{WorstSoFar}
 use Rattle.hausdorff.specs.declared.WorstSoFar.TheVariants.{None, Worst}
 use Rattle.hausdorff.specs.declared.Report.{Report}
-use Rattle.hausdorff.specs.declared.Report.TheVariants as Report
 use Rattle.encoding.specs.Results.{of_worst, of_overall, reported_of, of_side, of_report}
 use Rattle.ravinebowl.specs.Calls.{compare_length}
 

@@ -2,21 +2,17 @@
 use Rattle.std.specs.Prelude.{ℕ, cond, List, eqb, ℤ, length}
 use Rattle.plane.specs.declared.Corner.{Corner}
 use Rattle.outline.specs.declared.Verdict.{Verdict}
-use Rattle.outline.specs.declared.Verdict.TheVariants as Verdict
 use Rattle.edit.specs.code.Removal.{removal_verdict}
 use Rattle.edit.specs.code.Insertion.{insertion_verdict}
 use Rattle.nearest.specs.declared.NearestAnswer.{NearestAnswer}
-use Rattle.nearest.specs.declared.NearestAnswer.TheVariants as NearestAnswer
 use Rattle.nearest.specs.code.Call.{nearest_answer}
 use Rattle.hausdorff.specs.declared.Comparison.{Comparison}
 use Rattle.hausdorff.specs.declared.Comparison.TheVariants.{Refused, Reported}
 use Rattle.hausdorff.specs.code.Call.{comparison}
 use Rattle.mismatch.specs.declared.MismatchAnswer.{MismatchAnswer}
-use Rattle.mismatch.specs.declared.MismatchAnswer.TheVariants as MismatchAnswer
 use Rattle.mismatch.specs.code.Call.{mismatch_answer}
 use Rattle.records.specs.code.Call.{records_comparison}
 use Rattle.hull.specs.declared.HullAnswer.{HullAnswer}
-use Rattle.hull.specs.declared.HullAnswer.TheVariants as HullAnswer
 use Rattle.hull.specs.code.Call.{hull_answer, hull_list, hull_marks}
 use Rattle.encoding.specs.declared.status.Status.{Status}
 use Rattle.encoding.specs.Status.{answered, wrong_result_length, refused_status}
