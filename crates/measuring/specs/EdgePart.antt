@@ -32,16 +32,16 @@ edge_part v to run right is_after end beyond =
 abbrev pub corner_if : Bool → Bool → LocalFeature
 corner_if right_after right_before = cond (right_after || right_before) LocalFeature.Corner LocalFeature.NotCounted
 
--- what the parts of the two edges tell: of the edge after the support corner, and of the edge before it. `corner` is
+-- what the parts of the two edges tell: of the edge after the support corner, and of the edge before it. `here` is
 -- what is found if both parts are Start
 abbrev pub by_parts : Part → Part → LocalFeature → LocalFeature
-by_parts Between g corner = LocalFeature.EdgeAfter
-by_parts End g corner = LocalFeature.CornerAfter
-by_parts Start Start corner = corner
-by_parts Start Between corner = LocalFeature.EdgeBefore
-by_parts Start End corner = LocalFeature.CornerBefore
-by_parts Start None corner = LocalFeature.NotCounted
-by_parts None Start corner = LocalFeature.NotCounted
-by_parts None Between corner = LocalFeature.EdgeBefore
-by_parts None End corner = LocalFeature.CornerBefore
-by_parts None None corner = LocalFeature.NotCounted
+by_parts Between g here = LocalFeature.EdgeAfter
+by_parts End g here = LocalFeature.CornerAfter
+by_parts Start Start here = here
+by_parts Start Between here = LocalFeature.EdgeBefore
+by_parts Start End here = LocalFeature.CornerBefore
+by_parts Start None here = LocalFeature.NotCounted
+by_parts None Start here = LocalFeature.NotCounted
+by_parts None Between here = LocalFeature.EdgeBefore
+by_parts None End here = LocalFeature.CornerBefore
+by_parts None None here = LocalFeature.NotCounted
