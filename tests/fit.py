@@ -2,7 +2,7 @@
 
     python3 tests/fit.py SEED COUNT [PROGRAM]
 
-The same seed, from 1 up, gives the same inputs on any machine. PROGRAM is target/bin/fit of the repository if none is
+The same seed, from 1 up, gives the same inputs on any machine. PROGRAM is crates/fit/out/fit of the repository if none is
 named. The exit status is 1 if anything differs; the first input that does is shown and stored. Outlines are of either
 orientation, and so are those with a fault.
 """
@@ -18,7 +18,7 @@ from pairs import CLOCKWISE_SIDES, Random, beside, from_corner, from_edges, in_o
 from pairs import middling, mirrored, moved, near_tie, numbers, small, which
 from reference import corners
 
-PROGRAM = Path(__file__).resolve().parent.parent / "target" / "bin" / "fit"
+PROGRAM = Path(__file__).resolve().parent.parent / "crates" / "fit" / "out" / "fit"
 # Every 20th input arrives in parts, with pauses, so that reads come short; the longest that a run may take, in seconds.
 CHUNKED = 20
 PAUSE = 0.02
@@ -217,5 +217,5 @@ if __name__ == "__main__":
     if len(sys.argv) not in (3, 4) or not all(word.isdecimal() for word in sys.argv[1:3]) or int(sys.argv[1]) < 1:
         sys.exit(__doc__)
     if not Path((sys.argv + [PROGRAM])[3]).is_file():
-        sys.exit("the program is not there: rt check fit builds it")
+        sys.exit("the program is not there: rt run in crates/fit builds it")
     sys.exit(main(int(sys.argv[1]), int(sys.argv[2]), *sys.argv[3:]))

@@ -14,7 +14,7 @@ use lib.Count.{count_leading_zeros, leading_length}
 use lib.Dec.{lit<}
 use lib.Pow.{pow-add, pow_mono, pow_pos, shl_exact}
 use Rattle.integers.specs.code.Root.{root}
-use Rattle.integers.proofs.RootLaws.{root-unique}
+use Rattle.integers.proofs.RootLaws.{root-square, root-unique}
 
 -- r is above 0, at least the root of n, and no more than 2³²
 pub record Guess (n r : ℕ) : Type 0 where
@@ -80,3 +80,4 @@ guess-root {n} {r} guess quotient least =
       not_above = le_trans (mul-le-mul_right r least) (rw quotient (div-mul-le_self n r));
       above = guess.above;
     })
+    (root-square n)

@@ -2,6 +2,8 @@
 --     IsRoot                 r is the largest number whose square is not above n
 --     root-square            `root n` is
 --     root-unique            no other number is
+--     root-odd, root-even    it is 2r + 1, with r the root of n / 4, where (2r + 1)² is not above n, and 2r where it is
+--     odd-fits               with r the root of a number of 62 bits, (2r + 1)² fits 64
 --     ceiling-root           `ceiling_root g` is the smallest number whose square is not below g
 --     ceiling-suc            it is one more than the root of (n - 1) / d, for g = n / d above 0
 --     ceiling-unique         there is one such number
@@ -10,11 +12,12 @@
 --     ceiling-zero-iff       it is 0 exactly where g is
 --     ceiling-mono           it is not less for a greater fraction
 --     ceiling-same           it is the same for fractions of one value
-use Prim.Native.Nat.{ℕ, zero, suc, zero-le, ◌+◌, ◌-◌, ◌*◌, ◌/◌, ◌<◌, ◌≤◌}
-use native.Mathlib.Nat.{div-lt_iff_lt-mul, le_antisymm, le-mul_of_pos_right, le_of_eq, le_of_suc-le-suc, le_trans}
-use native.Mathlib.Nat.{lt_irrefl, lt_of_not-le, mul-le-mul, mul-one, not-le_of_lt, zero-mul}
+use Prim.Native.Nat.{ℕ, zero, suc, zero-le, ◌+◌, ◌-◌, ◌*◌, ◌/◌, ◌^◌, ◌<◌, ◌≤◌}
+use native.Mathlib.Nat.{div-lt_iff_lt-mul, le_antisymm, le-mul_of_pos_right, le_of_eq, le_of_lt, le_of_suc-le-suc}
+use native.Mathlib.Nat.{le_trans, lt_irrefl, lt_of_not-le, mul-le-mul, mul-le-mul_right, mul-one, not-le_of_lt}
+use native.Mathlib.Nat.{zero-mul}
 use native.Mathlib.Omega.{arith}
-use borrow.Author.Tests.{leb-true, leb-false}
+use borrow.Author.Tests.{leb-true, leb-false, le-leb, lt-leb}
 use mathlib.Core.Path.{◌≡◌, refl, sym}
 use mathlib.Core.Logic.{◌↔◌}
 use mathlib.Core.Bool.{Bool, true, false, cond}
@@ -54,10 +57,29 @@ root_below : {n r : ℕ} (k : ℕ) → IsRoot n r → n < k * k → r < k
 root_below k is above = lt_of_not-le (λ more. not-le_of_lt above (le_trans (mul-le-mul more more) is.not_above))
 
 -- of two such numbers each is below the other's next
-pub root-unique : {n r : ℕ} → IsRoot n r → r ≡ root n
-root-unique {n} is =
-    le_antisymm (le_of_suc-le-suc (root_below _ is (root-square n).above))
-    (le_of_suc-le-suc (root_below _ (root-square n) is.above))
+pub root-unique : {n r s : ℕ} → IsRoot n r → IsRoot n s → r ≡ s
+root-unique one other =
+    le_antisymm (le_of_suc-le-suc (root_below _ one other.above))
+    (le_of_suc-le-suc (root_below _ other one.above))
+
+-- `root n` is made of the root of n / 4, whatever the fuel: both sides are the root of n.
+root-doubled : (n : ℕ) → root n ≡ doubled n (root (n / 4))
+root-doubled n = root-unique (root-square n) (doubled-root n _ (root-square (n / 4)))
+
+-- So it is odd where the square of the odd number is not above n,
+pub root-odd : {n r : ℕ} → r ≡ root (n / 4) → (r + r + 1) * (r + r + 1) ≤ n → r + r + 1 ≡ root n
+root-odd e below = rw (root-doubled _, ← e, le-leb _ _ below)
+
+-- and even where it is.
+pub root-even : {n r : ℕ} → r ≡ root (n / 4) → n < (r + r + 1) * (r + r + 1) → r + r ≡ root n
+root-even e above = rw (root-doubled _, ← e, lt-leb _ _ above)
+
+-- With r² ≤ n < 2⁶², r is below 2³¹, and 2r + 1 below 2³².
+pub odd-fits : {n r : ℕ} → r ≡ root n → n < 2 ^ 62 → (r + r + 1) * (r + r + 1) < 2 ^ 64
+odd-fits {n} {r} e fits =
+    let square : r * r ≤ n = rw e (root-square n).not_above in
+    let small : r < 2 ^ 31 = lt_of_not-le (λ more. omega (arith, mul-le-mul more more)) in
+    omega (arith, mul-le-mul_right r (le_of_lt small))
 
 -- n / d < k² exactly where n + 1 ≤ k² d
 ceiling-is : (n d : ℕ) → 0 < d → CeilingRoot (record { upper = n; lower = d }) (ceiling_root_of n d)
