@@ -1,7 +1,7 @@
 -- Signed numbers of 64 bits, as locals hold them.
 --     i64-is       a number in a local is the number
 --     element      so is an element of an array
---     read-back    a natural number that was cast
+--     read_back    a natural number that was cast
 use Prim.Native.Nat.{ℕ, ◌^◌, ◌<◌}
 use mathlib.Core.Path.{◌≡◌, ◌∙◌}
 use mathlib.Core.List.{List}

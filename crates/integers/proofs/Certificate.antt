@@ -1,12 +1,12 @@
 -- Orders that follow from orders, by a sign certificate: a sum of products of hypotheses, squares and numerals
 -- which is the polynomial 0 although one summand is above 0, so that the hypotheses cannot hold together.
---   Claim: _≺_ _≼_ _≗_   order or equation of two expressions; they bind tighter than ∷
+--   Claim: ◌≺◌ ◌≼◌ ◌≗◌   order or equation of two expressions; they bind tighter than ∷
 --   Cert: hyp i          right side less left side of hypothesis i
 --         tight i        the same less 1, of a strict hypothesis
 --         num n          the numeral n + 1
 --         sq e           the square of an expression
 --         eqn i e        equation i, right side less left side, times any expression
---         _⊠_ _⊞_        products and sums
+--         ◌⊠◌ ◌⊞◌        products and sums
 --   refute env hyps cert tt       ⊥, given a proof of each hypothesis; they count from 0
 -- prove env hyps goal cert tt   the goal, given a proof of each hypothesis; hypothesis 0 is the goal's opposite,
 -- and yours

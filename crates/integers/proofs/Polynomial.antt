@@ -1,5 +1,5 @@
 -- Polynomial identities over the integers, by computation.
---   Expr: var lit ⊝_ _⊕_ _⊖_ _⊗_   an expression; `var i` is the i-th number of a list, from 0
+--   Expr: var lit ⊝◌ ◌⊕◌ ◌⊖◌ ◌⊗◌   an expression; `var i` is the i-th number of a list, from 0
 --   eval env e                     its value; unfolds everywhere
 --   same l r, null e               are the two equal, is it 0, as polynomials?
 --   solve env l r tt               eval env l ≡ eval env r, where they are the same polynomial

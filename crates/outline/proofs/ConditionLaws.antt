@@ -1,5 +1,5 @@
 -- The first condition that applies, decided by checks.
---     _and_                         proofs for a list, one after the other
+--     ◌and◌                         proofs for a list, one after the other
 --     Decides                       a check refuses exactly where its condition applies, and with the refusal that
 --                                   comes under it
 --     decides-taken                 so it takes exactly where the condition does not apply

@@ -1,7 +1,7 @@
 -- The algebra of vectors and points with whole components, of any size.
 -- As expressions, so that an identity is one `solve` and a sign one `prove` over `components` or `coordinates`:
 --     vec i                           the vector, or point, whose components are the variables i and i + 1
---     cross_e, dot_e, _⇀E_, side_e       cross, dot, _⇀_ and side of these; O is the number 0
+--     cross_e, dot_e, ◌⇀E◌, side_e       cross, dot, ◌⇀◌ and side of these; O is the number 0
 --     components, coordinates         the numbers of some vectors, of some points: the k-th is vec (2 k)
 -- Identities:
 --     cross-swap, dot-swap            the arguments exchanged

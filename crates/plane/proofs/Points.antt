@@ -1,13 +1,13 @@
 -- The algebra of points with fractions for coordinates.
 -- As expressions, for `solve` and `prove`:
 --     pt i             the point whose x, y and lower number are the variables i, i + 1 and i + 2
---     whole_e, _⇢E_     whole and _⇢_ of these
+--     whole_e, ◌⇢E◌     whole and ◌⇢◌ of these
 --     numbers          the numbers of some points: the k-th is pt (3 k)
 -- Distances from one point, multiplied out:
 --     farness               the squared distance from v to y, on the scale that compares it with that from v to z
 --     NotFarther, Nearer    y is not farther from v than z; y is nearer to v than z
 -- Laws:
---     whole-proper, whole-⇢           a corner as a point: its lower number is above 0, and _⇢_ of two corners is _⇀_
+--     whole-proper, whole-⇢           a corner as a point: its lower number is above 0, and ◌⇢◌ of two corners is ◌⇀◌
 --     dot-self-0                      the vector from a point to itself is 0, and so is its dot with any
 --     line-end                        a point's side number against an edge, from the edge's other end
 --     dot-trans                       if q is not farther in the direction u than p, nor r than q, then r is not

@@ -53,7 +53,7 @@ fn write_report(report: Report, res: &mut [i64])
 }
 
 // Compares the outlines that the lists `a` and `b` give, in at most `allowance` steps, and writes 32 numbers to
-// `result`. A `result` of another length is judged first; then refusals 1 to 6 for A, then for B. Being spent is no
+// `res`. A `res` of another length is judged first; then refusals 1 to 6 for A, then for B. Being spent is no
 // refusal.
 pub fn ravinebowl_compare(a: &[i32], b: &[i32], allowance: u32, res: &mut [i64]) -> Status
     ensures status { result ≡ compare_status a.now b.now allowance res.old }
@@ -72,7 +72,7 @@ pub fn ravinebowl_compare(a: &[i32], b: &[i32], allowance: u32, res: &mut [i64])
 }
 
 // Compares the outlines of two chains of linked records, which start at the indexes `a_start` and `b_start` of the store
-// `records`, in at most `allowance` steps, and writes 32 numbers to `result`, as `ravinebowl_compare` does. A `result` of
+// `records`, in at most `allowance` steps, and writes 32 numbers to `res`, as `ravinebowl_compare` does. A `res` of
 // another length is judged first; then 10, of A; then 11, 12 and 2 to 6 for A, then for B. The lists of the chains go to
 // `ravinebowl_compare`, so that `comparing::compare` has one caller and is compiled into it (docs/DECISIONS.md).
 pub fn ravinebowl_compare_records(
@@ -97,7 +97,7 @@ pub fn ravinebowl_compare_records(
 }
 
 // Finds the nearest point, to the point (x, y), of the outline that the list `outline` gives, and writes 7 numbers
-// to `result`. A `result` of another length is judged first; then refusals 1 to 6 for the outline, then 7.
+// to `res`. A `res` of another length is judged first; then refusals 1 to 6 for the outline, then 7.
 pub fn ravinebowl_nearest_point(x: i32, y: i32, outline: &[i32], res: &mut [i64]) -> Status
     ensures status { result ≡ nearest_status x y outline.now res.old }
     ensures list { res.new ≡ nearest_list x y outline.now res.old }
@@ -147,8 +147,8 @@ pub fn ravinebowl_insert_corner(
 
 // The convex hull of the points that the list `points` gives: writes its corners to `out`, from the lowest, of several the
 // leftmost, counterclockwise, with zeros after them; a mark for every point to `marks`, -1 if it repeats an earlier point,
-// else its corner number, else -2; and the corner count, one number, to `result`.
-// A `result` of another length is judged first; then refusals 1, 3, 4, 9 and 2; 9 is for an `out` or a `marks` of the wrong
+// else its corner number, else -2; and the corner count, one number, to `res`.
+// A `res` of another length is judged first; then refusals 1, 3, 4, 9 and 2; 9 is for an `out` or a `marks` of the wrong
 // length.
 pub fn ravinebowl_convex_hull(
     points: &[i32],
@@ -175,7 +175,7 @@ pub fn ravinebowl_convex_hull(
 
 // The mismatch sum of the outlines that the lists `a` and `b` give: the squared distance of every corner of each to the
 // other piece, 0 in it, is brought down to a whole number of 1/1024 square millimetres, and these are added. Writes this
-// one number to `result`. A `result` of another length is judged first; then refusals 1 to 6 for A, then for B.
+// one number to `res`. A `res` of another length is judged first; then refusals 1 to 6 for A, then for B.
 pub fn ravinebowl_mismatch(a: &[i32], b: &[i32], res: &mut [i64]) -> Status
     ensures status { result ≡ mismatch_status a.now b.now res.old }
     ensures list { res.new ≡ mismatch_list a.now b.now res.old }

@@ -1,5 +1,5 @@
-// The parts of a call that the benchmarks under bench/ time apart. C programs link them beside the library
-// `ravinebowl`.
+// The parts of a call that the benchmarks under bench/ time apart. `timing_c` exports them for C programs, which link
+// them beside the library of the calls.
 #![tactic(auto)]
 
 ghost use Rattle.std.specs.Prelude.{◌≡◌};
@@ -67,8 +67,7 @@ fn greatest_digest(s: &[i32], orientation: Orientation, points: &[i32]) -> u64
 
 // The nearest point for each point of a list, with the outline checked once. Answers the greatest of the numbers that
 // `digest` gives, or 0 where the outline is refused.
-#[unsafe(no_mangle)]
-pub extern "C" fn timing_core(s: &[i32], points: &[i32]) -> u64
+pub fn timing_core(s: &[i32], points: &[i32]) -> u64
     ensures { result ≡ timing_core s.now points.now }
 {
     if let Verdict::Refused(_) = checks::check_either(s, RefusedSide::NoSide) {
@@ -85,8 +84,7 @@ fn lesser_coordinate(v: Corner) -> i32
 
 // Reading an outline. Answers the lesser coordinate of what is in place k of the outline read: 0 where the list is
 // refused or k is 256 or more. Only the caller knows k, so no corner can be left out.
-#[unsafe(no_mangle)]
-pub extern "C" fn timing_read(s: &[i32], k: usize) -> i32
+pub fn timing_read(s: &[i32], k: usize) -> i32
     ensures { result ≡ timing_read s.now k }
 {
     let reading = reading::read(s, RefusedSide::NoSide);
