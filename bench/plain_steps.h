@@ -1,4 +1,4 @@
-/* The steps of the sweep by the ideas of the proved code, in plain C, for the benchmark alone, with the acceptance of both
+/* The steps of the sweep by the ideas of a faster comparing, in plain C, for the benchmark alone, with the acceptance of both
    lists: windows that move, corners passed over by the worst so far and by a quick test, 128-bit products, the nearest
    points computed at the end. Outlines, vectors and reports are those of plain.h. */
 #include "plain.h"
