@@ -89,54 +89,79 @@ module _ {X : Type 0} (long : ℕ) (status_of : X → Status) (list_of : X → L
 
 -- so each call, by the length of its result list
 pub compare-wrong : (s t : List ℤ) (allowance : ℕ) (result : List ℤ) → length result ≢ compare_length
-    → (compare_status s t allowance result ≡ wrong_result_length) × (compare_list s t allowance result ≡ result)
+    → (compare_status s t allowance result ≡ wrong_result_length)
+    × (compare_list s t allowance result ≡ result)
 unfolding compare_status compare_list
-compare-wrong s t allowance result = length-wrong compare_length status_of_comparison list_of_comparison (comparison s t allowance) result
+compare-wrong s t allowance result =
+    length-wrong compare_length status_of_comparison list_of_comparison (comparison s t allowance) result
 
-pub compare-right : (s t : List ℤ) (allowance : ℕ) (result : List ℤ) → length result ≡ compare_length → {answer : Comparison} → comparison s t allowance ≡ answer
-    → (compare_status s t allowance result ≡ status_of_comparison answer) × (compare_list s t allowance result ≡ list_of_comparison answer result)
+pub compare-right : (s t : List ℤ) (allowance : ℕ) (result : List ℤ) → length result ≡ compare_length
+    → {answer : Comparison} → comparison s t allowance ≡ answer
+    → (compare_status s t allowance result ≡ status_of_comparison answer)
+    × (compare_list s t allowance result ≡ list_of_comparison answer result)
 unfolding compare_status compare_list
-compare-right s t allowance result = length-right compare_length status_of_comparison list_of_comparison (comparison s t allowance) result
+compare-right s t allowance result =
+    length-right compare_length status_of_comparison list_of_comparison (comparison s t allowance) result
 
 pub records-wrong : (s : List ℤ) (a b : ℤ) (allowance : ℕ) (result : List ℤ) → length result ≢ compare_length
-    → (compare_records_status s a b allowance result ≡ wrong_result_length) × (compare_records_list s a b allowance result ≡ result)
+    → (compare_records_status s a b allowance result ≡ wrong_result_length)
+    × (compare_records_list s a b allowance result ≡ result)
 unfolding compare_records_status compare_records_list
-records-wrong s a b allowance result = length-wrong compare_length status_of_comparison list_of_comparison (records_comparison s a b allowance) result
+records-wrong s a b allowance result =
+    length-wrong compare_length status_of_comparison list_of_comparison (records_comparison s a b allowance) result
 
-pub records-right : (s : List ℤ) (a b : ℤ) (allowance : ℕ) (result : List ℤ) → length result ≡ compare_length → {answer : Comparison} → records_comparison s a b allowance ≡ answer
-    → (compare_records_status s a b allowance result ≡ status_of_comparison answer) × (compare_records_list s a b allowance result ≡ list_of_comparison answer result)
+pub records-right : (s : List ℤ) (a b : ℤ) (allowance : ℕ) (result : List ℤ) → length result ≡ compare_length
+    → {answer : Comparison} → records_comparison s a b allowance ≡ answer
+    → (compare_records_status s a b allowance result ≡ status_of_comparison answer)
+    × (compare_records_list s a b allowance result ≡ list_of_comparison answer result)
 unfolding compare_records_status compare_records_list
-records-right s a b allowance result = length-right compare_length status_of_comparison list_of_comparison (records_comparison s a b allowance) result
+records-right s a b allowance result =
+    length-right compare_length status_of_comparison list_of_comparison (records_comparison s a b allowance) result
 
 pub nearest-wrong : (x y : ℤ) (s : List ℤ) (result : List ℤ) → length result ≢ nearest_length
-    → (nearest_status x y s result ≡ wrong_result_length) × (nearest_list x y s result ≡ result)
+    → (nearest_status x y s result ≡ wrong_result_length)
+    × (nearest_list x y s result ≡ result)
 unfolding nearest_status nearest_list
-nearest-wrong x y s result = length-wrong nearest_length status_of_nearest list_of_nearest (nearest_answer (record { x = x; y = y }) s) result
+nearest-wrong x y s result =
+    length-wrong nearest_length status_of_nearest list_of_nearest (nearest_answer (record { x = x; y = y }) s) result
 
-pub nearest-right : (x y : ℤ) (s : List ℤ) (result : List ℤ) → length result ≡ nearest_length → {answer : NearestAnswer} → nearest_answer (record { x = x; y = y }) s ≡ answer
-    → (nearest_status x y s result ≡ status_of_nearest answer) × (nearest_list x y s result ≡ list_of_nearest answer result)
+pub nearest-right : (x y : ℤ) (s : List ℤ) (result : List ℤ) → length result ≡ nearest_length
+    → {answer : NearestAnswer} → nearest_answer (record { x = x; y = y }) s ≡ answer
+    → (nearest_status x y s result ≡ status_of_nearest answer)
+    × (nearest_list x y s result ≡ list_of_nearest answer result)
 unfolding nearest_status nearest_list
-nearest-right x y s result = length-right nearest_length status_of_nearest list_of_nearest (nearest_answer (record { x = x; y = y }) s) result
+nearest-right x y s result =
+    length-right nearest_length status_of_nearest list_of_nearest (nearest_answer (record { x = x; y = y }) s) result
 
 pub mismatch-wrong : (s t : List ℤ) (result : List ℤ) → length result ≢ mismatch_length
-    → (mismatch_status s t result ≡ wrong_result_length) × (mismatch_list s t result ≡ result)
+    → (mismatch_status s t result ≡ wrong_result_length)
+    × (mismatch_list s t result ≡ result)
 unfolding mismatch_status mismatch_list
-mismatch-wrong s t result = length-wrong mismatch_length status_of_mismatch list_of_mismatch (mismatch_answer s t) result
+mismatch-wrong s t result =
+    length-wrong mismatch_length status_of_mismatch list_of_mismatch (mismatch_answer s t) result
 
-pub mismatch-right : (s t : List ℤ) (result : List ℤ) → length result ≡ mismatch_length → {answer : MismatchAnswer} → mismatch_answer s t ≡ answer
-    → (mismatch_status s t result ≡ status_of_mismatch answer) × (mismatch_list s t result ≡ list_of_mismatch answer result)
+pub mismatch-right : (s t : List ℤ) (result : List ℤ) → length result ≡ mismatch_length
+    → {answer : MismatchAnswer} → mismatch_answer s t ≡ answer
+    → (mismatch_status s t result ≡ status_of_mismatch answer)
+    × (mismatch_list s t result ≡ list_of_mismatch answer result)
 unfolding mismatch_status mismatch_list
-mismatch-right s t result = length-right mismatch_length status_of_mismatch list_of_mismatch (mismatch_answer s t) result
+mismatch-right s t result =
+    length-right mismatch_length status_of_mismatch list_of_mismatch (mismatch_answer s t) result
 
 pub hull-wrong : (s out marks : List ℤ) (result : List ℤ) → length result ≢ convex_hull_length
-    → (convex_hull_status s out marks result ≡ wrong_result_length) × (convex_hull_result s out marks result ≡ result)
+    → (convex_hull_status s out marks result ≡ wrong_result_length)
+    × (convex_hull_result s out marks result ≡ result)
 unfolding convex_hull_status convex_hull_result
-hull-wrong s out marks result = length-wrong convex_hull_length status_of_hull result_of_hull (hull_answer s out marks) result
+hull-wrong s out marks result =
+    length-wrong convex_hull_length status_of_hull result_of_hull (hull_answer s out marks) result
 
-pub hull-right : (s out marks : List ℤ) (result : List ℤ) → length result ≡ convex_hull_length → {answer : HullAnswer} → hull_answer s out marks ≡ answer
-    → (convex_hull_status s out marks result ≡ status_of_hull answer) × (convex_hull_result s out marks result ≡ result_of_hull answer result)
+pub hull-right : (s out marks : List ℤ) (result : List ℤ) → length result ≡ convex_hull_length
+    → {answer : HullAnswer} → hull_answer s out marks ≡ answer
+    → (convex_hull_status s out marks result ≡ status_of_hull answer)
+    × (convex_hull_result s out marks result ≡ result_of_hull answer result)
 unfolding convex_hull_status convex_hull_result
-hull-right s out marks result = length-right convex_hull_length status_of_hull result_of_hull (hull_answer s out marks) result
+hull-right s out marks result =
+    length-right convex_hull_length status_of_hull result_of_hull (hull_answer s out marks) result
 
 -- the lists for the corners of a hull and for the marks, by the length of the result list
 module _ (s out marks result : List ℤ) where

@@ -38,6 +38,9 @@ report_of-requires c =
 pub returns : goal.returns
 returns c =
     compare-reports c.requires.accepted_as c.requires.accepted_as_2 c.count.ensures c.count-2.ensures _
-    (elim c.if-is_spent.branch [ then-is_spent w ↦ rw (lt-ltb _ _ w.if-is_spent.true) w.steps-is | else-is_spent w ↦ rw (le-ltb _ _ w.if-is_spent.false) w.steps-is ])
+    (elim c.if-is_spent.branch [
+      | then-is_spent w ↦ rw (lt-ltb _ _ w.if-is_spent.true) w.steps-is
+      | else-is_spent w ↦ rw (le-ltb _ _ w.if-is_spent.false) w.steps-is
+    ])
     c.make_steps-state.ensures c.listed.ensures c.listed-2.ensures
     c.report_of.ensures

@@ -28,15 +28,33 @@ pub returns-then-along-le0 : goal.returns-then-along-le0
 returns-then-along-le0 c = rw (start_is _ _ c.dot-along.ensures (search sfits_of) c.if-along-le0.true)
 
 pub returns-then-is_right : goal.returns-then-is_right
-returns-then-is_right c = rw (start_is _ _ c.dot-along.ensures (search sfits_of) c.if-along-le0.false, end_is _ _ c.dot-along.ensures (search sfits_of) c.squared_length.ensures (search sfits_of) c.if-along-squared_length.true, c.if-is_right.true)
+returns-then-is_right c =
+    let past-start = start_is _ _ c.dot-along.ensures (search sfits_of) c.if-along-le0.false in
+    let before-end =
+    end_is _ _ c.dot-along.ensures (search sfits_of) c.squared_length.ensures (search sfits_of)
+    c.if-along-squared_length.true in
+    rw (past-start, before-end, c.if-is_right.true)
 
 pub returns-then-along-squared_length : goal.returns-then-along-squared_length
-returns-then-along-squared_length c = rw (start_is _ _ c.dot-along.ensures (search sfits_of) c.if-along-le0.false, end_is _ _ c.dot-along.ensures (search sfits_of) c.squared_length.ensures (search sfits_of) c.if-along-squared_length.true, c.if-is_right.false)
+returns-then-along-squared_length c =
+    let past-start = start_is _ _ c.dot-along.ensures (search sfits_of) c.if-along-le0.false in
+    let before-end =
+    end_is _ _ c.dot-along.ensures (search sfits_of) c.squared_length.ensures (search sfits_of)
+    c.if-along-squared_length.true in
+    rw (past-start, before-end, c.if-is_right.false)
 
 pub returns-then-end_is_nearest : goal.returns-then-end_is_nearest
 returns-then-end_is_nearest c =
-    rw (start_is _ _ c.dot-along.ensures (search sfits_of) c.if-along-le0.false, end_is _ _ c.dot-along.ensures (search sfits_of) c.squared_length.ensures (search sfits_of) c.if-along-squared_length.false, ← c.end_is_nearest.ensures, c.if-end_is_nearest.true)
+    let past-start = start_is _ _ c.dot-along.ensures (search sfits_of) c.if-along-le0.false in
+    let past-end =
+    end_is _ _ c.dot-along.ensures (search sfits_of) c.squared_length.ensures (search sfits_of)
+    c.if-along-squared_length.false in
+    rw (past-start, past-end, ← c.end_is_nearest.ensures, c.if-end_is_nearest.true)
 
 pub returns : goal.returns
 returns c =
-    rw (start_is _ _ c.dot-along.ensures (search sfits_of) c.if-along-le0.false, end_is _ _ c.dot-along.ensures (search sfits_of) c.squared_length.ensures (search sfits_of) c.if-along-squared_length.false, ← c.end_is_nearest.ensures, c.if-end_is_nearest.false)
+    let past-start = start_is _ _ c.dot-along.ensures (search sfits_of) c.if-along-le0.false in
+    let past-end =
+    end_is _ _ c.dot-along.ensures (search sfits_of) c.squared_length.ensures (search sfits_of)
+    c.if-along-squared_length.false in
+    rw (past-start, past-end, ← c.end_is_nearest.ensures, c.if-end_is_nearest.false)

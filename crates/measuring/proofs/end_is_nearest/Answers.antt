@@ -28,10 +28,18 @@ pub dot-requires : goal.dot-requires
 dot-requires c = search span-difference
 
 pub returns-then-dot-gt0 : goal.returns-then-dot-gt0
-returns-then-dot-gt0 c = rw (past _ _ _ c.difference-to.ensures c.difference-run.ensures c.dot.ensures (search sfits_of) c.if-dot-gt0.true)
+returns-then-dot-gt0 c =
+    let is-past =
+    past _ _ _ c.difference-to.ensures c.difference-run.ensures
+    c.dot.ensures (search sfits_of) c.if-dot-gt0.true in
+    rw is-past
 
 pub returns-then-is_right : goal.returns-then-is_right
-returns-then-is_right c = rw (past _ _ _ c.difference-to.ensures c.difference-run.ensures c.dot.ensures (search sfits_of) c.if-dot-gt0.false, c.if-is_right.true)
+returns-then-is_right c =
+    let not-past =
+    past _ _ _ c.difference-to.ensures c.difference-run.ensures
+    c.dot.ensures (search sfits_of) c.if-dot-gt0.false in
+    rw (not-past, c.if-is_right.true)
 
 pub is_right-requires : goal.is_right-requires
 is_right-requires c = search span-difference
@@ -39,7 +47,10 @@ is_right-requires c = search span-difference
 -- the edge to `beyond` is the edge after `end`, or the edge before it
 pub returns-then-is_after : goal.returns-then-is_after
 returns-then-is_after c =
-    rw (past _ _ _ c.difference-to.ensures c.difference-run.ensures c.dot.ensures (search sfits_of) c.if-dot-gt0.false, c.if-is_right.false, c.if-is_after.true, ← c.difference-run.ensures)
+    let not-past =
+    past _ _ _ c.difference-to.ensures c.difference-run.ensures
+    c.dot.ensures (search sfits_of) c.if-dot-gt0.false in
+    rw (not-past, c.if-is_right.false, c.if-is_after.true, ← c.difference-run.ensures)
     c.is_right.ensures
 
 pub is_left-requires : goal.is_left-requires
@@ -47,5 +58,8 @@ is_left-requires c = search span-difference
 
 pub returns : goal.returns
 returns c =
-    rw (past _ _ _ c.difference-to.ensures c.difference-run.ensures c.dot.ensures (search sfits_of) c.if-dot-gt0.false, c.if-is_right.false, c.if-is_after.false, ← c.difference-run.ensures)
+    let not-past =
+    past _ _ _ c.difference-to.ensures c.difference-run.ensures
+    c.dot.ensures (search sfits_of) c.if-dot-gt0.false in
+    rw (not-past, c.if-is_right.false, c.if-is_after.false, ← c.difference-run.ensures)
     c.is_left.ensures

@@ -1,5 +1,6 @@
 -- What a read puts behind the filled start is what it consumed, so the longer start is all that was read.
-use Rattle.std.proofs.Common.{◌≡◌, ℕ, ◌+◌, ◌-◌, ◌≤◌, List, ◌++◌, rules, arith, length, take, slice_range, sym, ap, ◌∙◌, subst, le_refl, drop_at, length-take-le}
+use Rattle.std.proofs.Common.{◌≡◌, ℕ, ◌+◌, ◌-◌, ◌≤◌, List, ◌++◌, rules, arith, length, take, slice_range, sym, ap, ◌∙◌}
+use Rattle.std.proofs.Common.{subst, le_refl, drop_at, length-take-le}
 use Rattle.std.proofs.lemmas.Slice.{take-put_mid_below}
 use Rattle.std.specs.Io.KnownBytes.{Consumes}
 use Rattle.std.proofs.KnownBytes.{Consumes-trans}
@@ -18,7 +19,9 @@ slice_range-put_mid : (a k n : ℕ) (xs ys : List ℕ) → a ≤ length xs → n
 slice_range-put_mid a k n xs ys within fits =
     let same : (a + n) - a ≡ n = omega arith in
     let after = post_of a k xs in
-    ap (take ((a + n) - a)) (drop_at (take a xs) (ys ++ after) a (length-take-le a xs within)) ∙ ap (λ m. take m (ys ++ after)) same ∙ take-append-le n ys after fits
+    ap (take ((a + n) - a)) (drop_at (take a xs) (ys ++ after) a (length-take-le a xs within))
+    ∙ ap (λ m. take m (ys ++ after)) same
+    ∙ take-append-le n ys after fits
 
 pub loop-done-preserved : goal.loop-done-preserved
 loop-done-preserved g c =
@@ -27,7 +30,9 @@ loop-done-preserved g c =
     let count = c.in_ok-count.count in
     let within = c.loop-done.invariant.within in
     let part = slice_range-put_mid from room count c.loop-done.bytes c.read.new.buf within c.in_ok-count.ensures.bound.0 in
-    let joined = take_split from (from + count) c.loop-done.bytes (put_mid from room c.loop-done.bytes c.read.new.buf) (omega arith) (take-put_mid_below _ _ _ _ _ (le_refl _) within) in
+    let filled = put_mid from room c.loop-done.bytes c.read.new.buf in
+    let front = take-put_mid_below _ _ _ _ _ (le_refl _) within in
+    let joined = take_split from (from + count) c.loop-done.bytes filled (omega arith) front in
     record {
       within = search rules;
       same_length = search rules;

@@ -6,4 +6,5 @@ use Rattle.summing.proofs.mismatch_sum.Goals as goal
 
 pub overflow_add-result : goal.overflow_add-result
 overflow_add-result c =
-    omega (arith, mismatch_sum-fits (accepted-held c.requires.accepted_as) (accepted-held c.requires.accepted_as_2), c.side_sum.ensures, c.side_sum-2.ensures)
+    let fits = mismatch_sum-fits (accepted-held c.requires.accepted_as) (accepted-held c.requires.accepted_as_2) in
+    omega (arith, fits, c.side_sum.ensures, c.side_sum-2.ensures)

@@ -37,7 +37,8 @@ pub returns-then-i-eq0 : goal.returns-then-i-eq0
 returns-then-i-eq0 c =
     let z-fits : SFits w32 c.loop-stop.stop.index = search sfits_of in
     let none = sym (name c.args.store.now z-fits c.record_number-i.ensures) ∙ c.if-i-eq0.true in
-    let (is, written) = rw (to_z-of_z c.ranges.start) at (walk-done c.loop-stop.invariant (inr (record_number-zero (records c.args.store.now) _ none))) in
+    let ended = walk-done c.loop-stop.invariant (inr (record_number-zero (records c.args.store.now) _ none)) in
+    let (is, written) = rw (to_z-of_z c.ranges.start) at ended in
     record { stop = is; list = written }
 
 pub record_at-record-requires : goal.record_at-record-requires

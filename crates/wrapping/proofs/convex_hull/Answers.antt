@@ -67,7 +67,8 @@ slice_bounds-fill-end c = sym (length-take-le _ _ (own-room _ c.requires.s_len c
 
 pub fill-requires : goal.fill-requires
 fill-requires c =
-    omega (arith, length-take-le (length c.args.s.now) c.no_numbers-zs.result (own-room _ c.requires.s_len c.requires.s_len_bound c.no_numbers-zs.ensures))
+    let room = own-room _ c.requires.s_len c.requires.s_len_bound c.no_numbers-zs.ensures in
+    omega (arith, length-take-le (length c.args.s.now) c.no_numbers-zs.result room)
 
 pub lowest-requires : goal.lowest-requires
 lowest-requires c =

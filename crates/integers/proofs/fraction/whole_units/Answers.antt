@@ -12,7 +12,9 @@ overflow_mul-result c =
 
 pub overflow_mul-result-2 : goal.overflow_mul-result-2
 overflow_mul-result-2 c =
-    omega (arith, carry-fits (lt_trans (mod-lt c.args.g.upper c.requires.bounded.lower_positive) c.requires.bounded.lower_fits) c.requires.units_bound)
+    let bounded = c.requires.bounded in
+    let rest-fits = lt_trans (mod-lt c.args.g.upper bounded.lower_positive) bounded.lower_fits in
+    omega (arith, carry-fits rest-fits c.requires.units_bound)
 
 pub overflow_add-result : goal.overflow_add-result
 overflow_add-result c =

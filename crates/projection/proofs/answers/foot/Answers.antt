@@ -59,7 +59,11 @@ overflow_cast-result c =
 
 pub returns : goal.returns
 returns c =
-    let x = given c.requires.span c.requires.span_2 c.squared_length-length.ensures c.dot-along.ensures c.requires.in_range.x_size c.requires.span.x_size c.coordinate.ensures in
-    let y = given c.requires.span c.requires.span_2 c.squared_length-length.ensures c.dot-along.ensures c.requires.in_range.y_size c.requires.span.y_size c.coordinate-2.ensures in
+    let x =
+    given c.requires.span c.requires.span_2 c.squared_length-length.ensures c.dot-along.ensures
+    c.requires.in_range.x_size c.requires.span.x_size c.coordinate.ensures in
+    let y =
+    given c.requires.span c.requires.span_2 c.squared_length-length.ensures c.dot-along.ensures
+    c.requires.in_range.y_size c.requires.span.y_size c.coordinate-2.ensures in
     let lower = length-exact c.squared_length-length.ensures c.requires.span in
     λ k. record { x = x k; y = y k; lower = lower k }

@@ -35,8 +35,22 @@ loop-i-preserved c =
     let below = rw counted at c.loop-i-test.true in
     let next-in-range : InRange c.corner-next.result = rw c.corner-next.ensures (c.requires.all_in_range c.loop-i.i below) in
     elim c.if-is_ahead.branch [
-      | then-is_ahead w ↦ (counted, rw w.found-is (choose-take (is_ahead c.args.p) origin _ below choosing c.corner-next.ensures (rw c.is_ahead.ensures at w.if-is_ahead.true), next-in-range))
-      | else-is_ahead w ↦ (counted, rw w.found-is (choose-keep (is_ahead c.args.p) origin _ below choosing c.corner-next.ensures (rw c.is_ahead.ensures at w.if-is_ahead.false), all_in_range))
+      | then-is_ahead w ↦ (
+        counted,
+        rw w.found-is (
+          choose-take (is_ahead c.args.p) origin _ below choosing c.corner-next.ensures
+              (rw c.is_ahead.ensures at w.if-is_ahead.true),
+          next-in-range,
+        ),
+      )
+      | else-is_ahead w ↦ (
+        counted,
+        rw w.found-is (
+          choose-keep (is_ahead c.args.p) origin _ below choosing c.corner-next.ensures
+              (rw c.is_ahead.ensures at w.if-is_ahead.false),
+          all_in_range,
+        ),
+      )
     ]
 
 pub returns : goal.returns

@@ -38,8 +38,16 @@ loop-i-preserved c =
     let below = rw counted at c.loop-i-test.true in
     let is = c.corner-z.ensures ∙ keep-point keeping below in
     elim c.if-is_candidate.branch [
-      | then-is_candidate w ↦ (counted, rw (w.left-is, c.put_corner.ensures) (keep-pass keeping below _ is (rw c.is_candidate.ensures at w.if-is_candidate.true)))
-      | else-is_candidate w ↦ (counted, rw (w.left-is, c.put_corner.ensures) (keep-fail keeping below _ is (rw c.is_candidate.ensures at w.if-is_candidate.false)))
+      | then-is_candidate w ↦ (
+        counted,
+        rw (w.left-is, c.put_corner.ensures) (keep-pass keeping below _ is
+            (rw c.is_candidate.ensures at w.if-is_candidate.true)),
+      )
+      | else-is_candidate w ↦ (
+        counted,
+        rw (w.left-is, c.put_corner.ensures) (keep-fail keeping below _ is
+            (rw c.is_candidate.ensures at w.if-is_candidate.false)),
+      )
     ]
 
 pub returns : goal.returns

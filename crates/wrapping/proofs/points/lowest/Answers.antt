@@ -18,8 +18,16 @@ loop-i-preserved c =
     let (counted, choosing) = c.loop-i.invariant in
     let below = rw counted at c.loop-i-test.true in
     elim c.if-is_lower.branch [
-      | then-is_lower w ↦ (counted, rw w.found-is (choose-take is_lower origin _ below choosing c.corner-next.ensures (rw c.is_lower.ensures at w.if-is_lower.true)))
-      | else-is_lower w ↦ (counted, rw w.found-is (choose-keep is_lower origin _ below choosing c.corner-next.ensures (rw c.is_lower.ensures at w.if-is_lower.false)))
+      | then-is_lower w ↦ (
+        counted,
+        rw w.found-is (choose-take is_lower origin _ below choosing c.corner-next.ensures
+            (rw c.is_lower.ensures at w.if-is_lower.true)),
+      )
+      | else-is_lower w ↦ (
+        counted,
+        rw w.found-is (choose-keep is_lower origin _ below choosing c.corner-next.ensures
+            (rw c.is_lower.ensures at w.if-is_lower.false)),
+      )
     ]
 
 pub returns : goal.returns
