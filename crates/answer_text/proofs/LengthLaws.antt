@@ -5,16 +5,16 @@ use mathlib.Core.List.{List}
 use native.Mathlib.Omega.{arith}
 use lib.IntN.{ℤ, pos, negsuc}
 use lib.ListN.{length, length-append}
+use Rattle.std.specs.Prelude.{Option, Some, None}
 use Rattle.integers.specs.declared.fraction.Fraction.{Fraction}
 use Rattle.text.specs.Ascii.{ascii}
 use Rattle.text.specs.Decimal.{decimal, signed_decimal}
 use Rattle.text.proofs.DecimalLaws.{digits-short}
 use Rattle.plane.specs.declared.Point.{Point}
+use Rattle.outline.specs.Fault.{number}
 use Rattle.outline.specs.declared.Place.{Place}
 use Rattle.outline.specs.declared.Place.TheVariants.{Nowhere, At, EdgeAndCorner}
 use Rattle.outline.specs.declared.Refusal.{Refusal}
-use Rattle.outline.specs.declared.RefusedSide.{RefusedSide}
-use Rattle.outline.specs.declared.RefusedSide.TheVariants.{NoSide, Of}
 use Rattle.outline.specs.declared.Side.{Side}
 use Rattle.outline.specs.declared.Side.TheVariants.{A, B}
 use Rattle.nearest.specs.declared.Feature.{Feature}
@@ -56,9 +56,9 @@ unfolding point_text
 point-fits p =
     simp length-append (omega (arith, coordinate-fits p.x p.lower, coordinate-fits p.y p.lower))
 
-refused-side-fits : (s : RefusedSide) → length (refused_side_text s) ≤ 2
-refused-side-fits NoSide = omega arith
-refused-side-fits (Of s) = omega (arith, side-fits s)
+refused-side-fits : (s : Option Side) → length (refused_side_text s) ≤ 2
+refused-side-fits None = omega arith
+refused-side-fits (Some s) = omega (arith, side-fits s)
 
 place-fits : (before : List ℕ) (p : Place) → length (place_text before p) ≤ length before + 41
 place-fits before Nowhere = omega arith
@@ -69,4 +69,4 @@ pub refusal-fits : (r : Refusal) → length (refusal_text r) ≤ 72
 unfolding refusal_text
 refusal-fits r =
     simp length-append
-    (omega (arith, refused-side-fits r.side, decimal-fits r.number, place-fits (ascii " ") r.place))
+    (omega (arith, refused-side-fits r.side, decimal-fits (number r.fault), place-fits (ascii " ") r.place))

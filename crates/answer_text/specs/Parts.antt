@@ -1,14 +1,13 @@
 -- The parts of an answer as text (rules 8.7 to 8.9).
-use Rattle.std.specs.Prelude.{ℕ, List, [], ◌++◌, ℤ}
+use Rattle.std.specs.Prelude.{ℕ, List, [], ◌++◌, ℤ, Option, Some, None}
 use Rattle.integers.specs.declared.fraction.Fraction.{Fraction}
 use Rattle.text.specs.Ascii.{ascii}
 use Rattle.text.specs.Decimal.{decimal, signed_decimal}
 use Rattle.plane.specs.declared.Point.{Point}
+use Rattle.outline.specs.Fault.{number}
 use Rattle.outline.specs.declared.Place.{Place}
 use Rattle.outline.specs.declared.Place.TheVariants.{Nowhere, At, EdgeAndCorner}
 use Rattle.outline.specs.declared.Refusal.{Refusal}
-use Rattle.outline.specs.declared.RefusedSide.{RefusedSide}
-use Rattle.outline.specs.declared.RefusedSide.TheVariants.{NoSide, Of}
 use Rattle.outline.specs.declared.Side.{Side}
 use Rattle.outline.specs.declared.Side.TheVariants.{A, B}
 use Rattle.nearest.specs.declared.Feature.{Feature}
@@ -42,9 +41,9 @@ unfoldable pub point_text : Point → List ℕ
 point_text p = coordinate_text p.x p.lower ++ ascii " " ++ coordinate_text p.y p.lower
 
 -- a space and the side of a refusal, or nothing where it has none
-abbrev pub refused_side_text : RefusedSide → List ℕ
-refused_side_text NoSide = []
-refused_side_text (Of s) = ascii " " ++ side_text s
+abbrev pub refused_side_text : Option Side → List ℕ
+refused_side_text None = []
+refused_side_text (Some s) = ascii " " ++ side_text s
 
 -- some bytes and the numbers of a place, or nothing where there is none
 abbrev pub place_text : List ℕ → Place → List ℕ
@@ -55,5 +54,5 @@ place_text before (EdgeAndCorner e c) = before ++ decimal e ++ ascii " " ++ deci
 -- rule 8.7, a refusal: its side, its number and the place's numbers, if any
 unfoldable pub refusal_text : Refusal → List ℕ
 refusal_text r =
-    ascii "refused" ++ refused_side_text r.side ++ ascii " " ++ decimal r.number
+    ascii "refused" ++ refused_side_text r.side ++ ascii " " ++ decimal (number r.fault)
     ++ place_text (ascii " ") r.place

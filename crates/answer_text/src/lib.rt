@@ -1,4 +1,5 @@
 // The parts of an answer as text, for the lines of the programs.
+// No impl of Display: what it writes is promised on Ok alone, and `fit_text::respond` promises its text on every input.
 #![tactic(auto)]
 
 ghost use Rattle.std.specs.Prelude.{◌≡◌};
@@ -8,7 +9,7 @@ ghost use Rattle.answer_text.specs.Parts.{point_text, refused_side_text, place_t
 
 use integers::fraction::Fraction;
 use nearest::Feature;
-use outline::{Place, Refusal, RefusedSide, Side};
+use outline::{Place, Refusal, Side};
 use plane::Point;
 use text::output::Text;
 
@@ -57,12 +58,12 @@ pub fn point(t: Text, p: Point) -> Text
     coordinate(t, p.y, p.lower)
 }
 
-fn refused_side(t: Text, refused: RefusedSide) -> Text
+fn refused_side(t: Text, refused: Option<Side>) -> Text
     ensures { result ≡ appended t (refused_side_text refused) }
 {
     match refused {
-        RefusedSide::NoSide => t,
-        RefusedSide::Of(of) => side(t.bytes(b" "), of),
+        None => t,
+        Some(of) => side(t.bytes(b" "), of),
     }
 }
 
@@ -88,6 +89,6 @@ pub fn refusal(t: Text, refusal: Refusal) -> Text
     let side = refusal.side;
     let at = refusal.place;
     let t = refused_side(t.bytes(b"refused"), side);
-    let t = t.bytes(b" ").natural(refusal.number as u64);
+    let t = t.bytes(b" ").natural(u32::from(refusal.fault) as u64);
     place(t, b" ", at)
 }

@@ -9,125 +9,59 @@ mod c_functions;
 mod rattle_calls;
 mod report;
 
-use case_input::LONGEST;
-use case_lines::status::{LONGEST_RESULT, RESULT_FILL};
+use case_input::{Cursor, LONGEST};
 use plane::Corner;
 use std::io;
 
-// What stands at every place of a list to write before a call.
-const FILL: i32 = 77;
-
-// The numbers of a case beside its lists, and the place in the input after them. A corner number is there in two parts.
+// The numbers of a case beside its lists. A corner number is there in two parts.
 #[derive(Clone, Copy)]
 struct Given {
-    x: i32,
-    y: i32,
-    nearest_length: u32,
+    v: Corner,
+    nearest_length: usize,
     corner: usize,
-    out_length: u32,
+    out_length: usize,
     allowance: u32,
-    compare_length: u32,
-    mismatch_length: u32,
-    next: usize,
+    compare_length: usize,
+    mismatch_length: usize,
 }
 
-fn read_given(s: &[u8], from: usize) -> Given {
-    let x = case_input::read_number(s, from);
-    let y = case_input::read_number(s, x.next);
-    let nearest_length = case_input::read_number(s, y.next);
-    let corner_high = case_input::read_number(s, nearest_length.next);
-    let corner_low = case_input::read_number(s, corner_high.next);
-    let out_length = case_input::read_number(s, corner_low.next);
-    let allowance = case_input::read_number(s, out_length.next);
-    let compare_length = case_input::read_number(s, allowance.next);
-    let mismatch_length = case_input::read_number(s, compare_length.next);
-    Given {
-        x: case_input::value(x),
-        y: case_input::value(y),
-        nearest_length: nearest_length.size,
-        corner: corner_high.size as usize * 4294967296 + corner_low.size as usize,
-        out_length: out_length.size,
-        allowance: allowance.size,
-        compare_length: compare_length.size,
-        mismatch_length: mismatch_length.size,
-        next: mismatch_length.next,
+impl Given {
+    fn read(case: &mut Cursor) -> Self {
+        Given {
+            v: Corner {
+                x: case.signed(),
+                y: case.signed(),
+            },
+            nearest_length: case.natural() as usize,
+            corner: case.wide(),
+            out_length: case.natural() as usize,
+            allowance: case.natural(),
+            compare_length: case.natural() as usize,
+            mismatch_length: case.natural() as usize,
+        }
     }
-}
-
-// Removes a corner, both ways.
-fn remove(rt: &impl Print, a: &[i32], corner: usize, out_length: u32) -> io::Result<()> {
-    let length = case_input::at_most(LONGEST, out_length);
-    let mut out = [FILL; LONGEST];
-    rattle_calls::remove(rt, a, corner, &mut out[..length])?;
-    let mut c_out = [FILL; LONGEST];
-    c_functions::remove(rt, a, corner, &mut c_out[..length])
-}
-
-fn c_nearest(rt: &impl Print, v: Corner, a: &[i32], result_length: u32) -> io::Result<()> {
-    let length = case_input::at_most(LONGEST_RESULT, result_length);
-    let mut result = [RESULT_FILL; LONGEST_RESULT];
-    c_functions::nearest(rt, v, a, &mut result[..length])
-}
-
-fn c_compare(
-    rt: &impl Print,
-    a: &[i32],
-    b: &[i32],
-    allowance: u32,
-    result_length: u32,
-) -> io::Result<()> {
-    let length = case_input::at_most(LONGEST_RESULT, result_length);
-    let mut result = [RESULT_FILL; LONGEST_RESULT];
-    c_functions::compare(rt, a, b, allowance, &mut result[..length])
-}
-
-fn c_mismatch(rt: &impl Print, a: &[i32], b: &[i32], result_length: u32) -> io::Result<()> {
-    let length = case_input::at_most(LONGEST_RESULT, result_length);
-    let mut result = [RESULT_FILL; LONGEST_RESULT];
-    c_functions::mismatch(rt, a, b, &mut result[..length])
 }
 
 // Makes every call for one case.
-fn answer_case(rt: &impl Print, a: &[i32], b: &[i32], given: Given) -> io::Result<()> {
-    let v = Corner {
-        x: given.x,
-        y: given.y,
-    };
+fn answer_case(rt: &impl Print, case: &mut Cursor) -> io::Result<()> {
+    let mut a_room = [0; LONGEST];
+    let mut b_room = [0; LONGEST];
+    let a = case.list(&mut a_room);
+    let b = case.list(&mut b_room);
+    let given = Given::read(case);
     rattle_calls::read(rt, a)?;
     rattle_calls::read_strict(rt, a)?;
-    rattle_calls::nearest(rt, v, a)?;
-    remove(rt, a, given.corner, given.out_length)?;
-    c_nearest(rt, v, a, given.nearest_length)?;
-    c_compare(rt, a, b, given.allowance, given.compare_length)?;
+    rattle_calls::nearest(rt, given.v, a)?;
+    rattle_calls::remove(rt, a, given.corner, given.out_length)?;
+    c_functions::remove(rt, a, given.corner, given.out_length)?;
+    c_functions::nearest(rt, given.v, a, given.nearest_length)?;
+    c_functions::compare(rt, a, b, given.allowance, given.compare_length)?;
     rattle_calls::mismatch(rt, a, b)?;
-    c_mismatch(rt, a, b, given.mismatch_length)
-}
-
-// Answers the case at a place of the input. Gives the place after it.
-fn next_case(rt: &impl Print, s: &[u8], from: usize) -> io::Result<usize> {
-    let a = case_input::read_list(s, from);
-    let b = case_input::read_list(s, a.next);
-    let given = read_given(s, b.next);
-    let acount = a.count;
-    let bcount = b.count;
-    let aitems = a.items;
-    let bitems = b.items;
-    let next = given.next;
-    answer_case(rt, &aitems[..acount], &bitems[..bcount], given)?;
-    Ok(next)
-}
-
-fn answer_cases(rt: &impl Print, s: &[u8]) -> io::Result<()> {
-    let count = case_input::read_number(s, 0);
-    let mut next = count.next;
-    for _ in 0..count.size {
-        next = next_case(rt, s, next)?;
-    }
-    Ok(())
+    c_functions::mismatch(rt, a, b, given.mismatch_length)
 }
 
 fn main(rt: HostRuntime) -> io::Result<()> {
-    let mut text = case_input::room();
-    let count = standard_input::read_full(&rt, &mut text)?;
-    answer_cases(&rt, &text[..count])
+    let mut room = case_input::room();
+    let count = standard_input::read_full(&rt, &mut room)?;
+    Cursor::new(&room[..count]).for_each_case(|case| answer_case(&rt, case))
 }

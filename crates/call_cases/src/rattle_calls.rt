@@ -7,68 +7,63 @@
 // A refusal stands after the first word, as `refused NUMBER [PLACE..]`, with the side before the number where there are
 // two outlines; in removing the list to write follows it.
 use crate::report;
+use case_input::LONGEST;
 use case_lines::edits::print_edit;
-use case_lines::{print_natural, print_refusal};
-use mismatch::MismatchAnswer;
-use nearest::NearestAnswer;
-use outline::{Orientation, Verdict};
+use case_lines::{FILL, print_refusal};
+use outline::Orientation;
 use plane::Corner;
 use std::io;
 
 fn print_orientation(rt: &impl Print, orientation: Orientation) -> io::Result<()> {
     match orientation {
-        Orientation::Counterclockwise => print::text(rt, b" counterclockwise"),
-        Orientation::Clockwise => print::text(rt, b" clockwise"),
+        Orientation::Counterclockwise => print!(rt; " counterclockwise"),
+        Orientation::Clockwise => print!(rt; " clockwise"),
     }
 }
 
 pub fn read(rt: &impl Print, a: &[i32]) -> io::Result<()> {
-    let reading = calls::read_outline(a);
-    let verdict = reading.verdict;
-    let orientation = reading.orientation;
-    let outline = reading.outline;
-    print::text(rt, b"read")?;
-    match verdict {
-        Verdict::Taken => {
-            print_orientation(rt, orientation)?;
-            report::print_outline(rt, outline)?;
+    print!(rt; "read")?;
+    match calls::read_outline(a) {
+        Ok(reading) => {
+            print_orientation(rt, reading.orientation)?;
+            report::print_outline(rt, reading.outline)?;
         }
-        Verdict::Refused(refusal) => print_refusal(rt, refusal)?,
+        Err(refusal) => print_refusal(rt, refusal)?,
     }
-    print::text(rt, b"\n")
+    println!(rt; "")
 }
 
 pub fn read_strict(rt: &impl Print, a: &[i32]) -> io::Result<()> {
-    let reading = calls::read_outline_strict(a);
-    let verdict = reading.verdict;
-    let outline = reading.outline;
-    print::text(rt, b"read_strict")?;
-    match verdict {
-        Verdict::Taken => report::print_outline(rt, outline)?,
-        Verdict::Refused(refusal) => print_refusal(rt, refusal)?,
+    print!(rt; "read_strict")?;
+    match calls::read_outline_strict(a) {
+        Ok(outline) => report::print_outline(rt, outline)?,
+        Err(refusal) => print_refusal(rt, refusal)?,
     }
-    print::text(rt, b"\n")
+    println!(rt; "")
 }
 
 pub fn nearest(rt: &impl Print, v: Corner, a: &[i32]) -> io::Result<()> {
-    print::text(rt, b"nearest")?;
+    print!(rt; "nearest")?;
     match calls::nearest_point(v, a) {
-        NearestAnswer::Found(found) => report::print_nearest(rt, found)?,
-        NearestAnswer::Refused(refusal) => print_refusal(rt, refusal)?,
+        Ok(found) => report::print_nearest(rt, found)?,
+        Err(refusal) => print_refusal(rt, refusal)?,
     }
-    print::text(rt, b"\n")
+    println!(rt; "")
 }
 
-pub fn remove(rt: &impl Print, a: &[i32], corner: usize, out: &mut [i32]) -> io::Result<()> {
+// The list to write has the given length, as far as there is room.
+pub fn remove(rt: &impl Print, a: &[i32], corner: usize, length: usize) -> io::Result<()> {
+    let mut room = [FILL; LONGEST];
+    let out = &mut room[..length.min(LONGEST)];
     let verdict = calls::remove_corner(a, corner, out);
     print_edit(rt, b"remove", verdict, out)
 }
 
 pub fn mismatch(rt: &impl Print, a: &[i32], b: &[i32]) -> io::Result<()> {
-    print::text(rt, b"mismatch")?;
+    print!(rt; "mismatch")?;
     match calls::mismatch(a, b) {
-        MismatchAnswer::Summed(sum) => print_natural(rt, sum)?,
-        MismatchAnswer::Refused(refusal) => print_refusal(rt, refusal)?,
+        Ok(sum) => print!(rt; " {sum}")?,
+        Err(refusal) => print_refusal(rt, refusal)?,
     }
-    print::text(rt, b"\n")
+    println!(rt; "")
 }

@@ -3,8 +3,7 @@
 // docs/SPECIFICATION.md (`rules`), from which a caller reads off what holds. Each of the two determines the result.
 #![tactic(auto)]
 
-ghost use Rattle.std.specs.Prelude.{◌≡◌};
-ghost use Rattle.outline.specs.declared.RefusedSide.TheVariants.{NoSide};
+ghost use Rattle.std.specs.Prelude.{◌≡◌, None, Ok, Err, MatchResult};
 ghost use Rattle.outline.specs.EitherReading.{IsEitherReading};
 ghost use Rattle.outline.specs.Reading.{IsReading};
 ghost use Rattle.outline.specs.code.Either.{either_reading};
@@ -25,69 +24,61 @@ ghost use Rattle.mismatch.specs.Call.{IsMismatchAnswer};
 ghost use Rattle.mismatch.specs.code.Call.{mismatch_answer};
 
 use editing::{insertion, removal};
-use hausdorff::{Comparison, PairVerdict};
-use hull::HullAnswer;
-use mismatch::MismatchAnswer;
-use nearest::NearestAnswer;
-use outline::{EitherReading, FEWEST, Place, Reading, Refusal, RefusedSide, Side, Verdict};
+use hausdorff::{Report, Sides};
+use nearest::NearestPoint;
+use outline::{EitherReading, FEWEST, Fault, Outline, Place, Refusal, Side};
 use plane::Corner;
 use projection::answers;
-use reading::checks::{POINT_OUT_OF_RANGE, TOO_FEW};
+use reading::accepted::AcceptedOutline;
 use reading::corners::no_numbers;
-use reading::{checks, corners};
-use records::ChainsVerdict;
+use reading::refusals::refuse;
 use wrapping::marks::write_marks;
 use wrapping::points::fill;
 
 // Reads the outline that the list `s` gives: x and y of corner 0, then of corner 1, and so on, in either orientation.
 // The outline is read as it is held, with the orientation of the list beside it: of a clockwise list corner 0, and then
-// the others in the opposite order. Refusals 1 to 6, where 6 is for a list that fits neither orientation; the outline
-// read then has no corners, and the orientation is `Counterclockwise`.
-pub fn read_outline(s: &[i32]) -> EitherReading
-    ensures answer { result ≡ either_reading NoSide s.now }
-    ensures rules { IsEitherReading NoSide s.now result }
+// the others in the opposite order. Refusals 1 to 6, where 6 is for a list that fits neither orientation.
+pub fn read_outline(s: &[i32]) -> Result<EitherReading, Refusal>
+    ensures answer { result ≡ either_reading None s.now }
+    ensures rules { IsEitherReading None s.now result }
 {
-    reading::read_either(s, RefusedSide::NoSide)
+    reading::read_either(s, None)
 }
 
 // Reads the outline that the list `s` gives: x and y of corner 0, then of corner 1, and so on, counterclockwise.
-// Refusals 1 to 6; the outline read then has no corners.
-pub fn read_outline_strict(s: &[i32]) -> Reading
-    ensures answer { result ≡ reading NoSide s.now }
-    ensures rules { IsReading NoSide s.now result }
+// Refusals 1 to 6.
+pub fn read_outline_strict(s: &[i32]) -> Result<Outline, Refusal>
+    ensures answer { result ≡ reading None s.now }
+    ensures rules { IsReading None s.now result }
 {
-    reading::read(s, RefusedSide::NoSide)
+    reading::read(s, None)
 }
 
 // Removes corner k from the outline that the counterclockwise list `s` gives, and writes the other corners to `out`, in
 // their order.
 // Refusals 1 to 6, 8, 2 and 9, in this order; `out` is then as it was.
-pub fn remove_corner(s: &[i32], k: usize, out: &mut [i32]) -> Verdict
+pub fn remove_corner(s: &[i32], k: usize, out: &mut [i32]) -> Result<(), Refusal>
     ensures answer { result ≡ removal_verdict s.now k out.old }
     ensures list { out.new ≡ list_after s.now k out.old }
     ensures rules { IsRemoval s.now k out.old result out.new }
 {
-    if let Verdict::Refused(refusal) = removal::check_removal(s, k, out.len()) {
-        return Verdict::Refused(refusal);
-    }
+    removal::check_removal(s, k, out.len())?;
     removal::write_without(s, k, out);
-    Verdict::Taken
+    Ok(())
 }
 
 // Inserts the point v as corner k into the outline that the counterclockwise list `s` gives: before what was corner k, or
 // after the last if k is the corner count. Writes the corners of the result to `out`, in their order.
 // Refusals, in this order: 1 to 6 for the outline, 8, 7, 3, 9, and 5 and 6 for the result, with places in the result. A
 // refused call leaves `out` as it was.
-pub fn insert_corner(s: &[i32], k: usize, v: Corner, out: &mut [i32]) -> Verdict
+pub fn insert_corner(s: &[i32], k: usize, v: Corner, out: &mut [i32]) -> Result<(), Refusal>
     ensures answer { result ≡ insertion_verdict s.now k v out.old }
     ensures list { out.new ≡ insertion_list s.now k v out.old }
     ensures rules { IsInsertion s.now k v out.old result out.new }
 {
-    if let Verdict::Refused(refusal) = insertion::check_insertion(s, k, v, out.len()) {
-        return Verdict::Refused(refusal);
-    }
+    insertion::check_insertion(s, k, v, out.len())?;
     insertion::write_with(s, k, v, out);
-    Verdict::Taken
+    Ok(())
 }
 
 // The convex hull of the points that the list `s` gives: x and y of point 0, then of point 1, and so on, in any order, with
@@ -97,77 +88,61 @@ pub fn insert_corner(s: &[i32], k: usize, v: Corner, out: &mut [i32]) -> Verdict
 // Gives the corner count.
 // Refusals, in this order: 1, 3, 4, whose place is the number of the first such point, 9 if either list has another length,
 // and 2 if there are no points or all lie in one line. A refused call leaves both lists as they were.
-pub fn convex_hull(s: &[i32], out: &mut [i32], marks: &mut [i32]) -> HullAnswer
+pub fn convex_hull(s: &[i32], out: &mut [i32], marks: &mut [i32]) -> Result<usize, Refusal>
     ensures answer { result ≡ hull_answer s.now out.old marks.old }
     ensures list { out.new ≡ hull_list s.now out.old marks.old }
     ensures marked { marks.new ≡ hull_marks s.now out.old marks.old }
     ensures rules { IsHullAnswer s.now out.old marks.old result out.new marks.new }
 {
-    if let Verdict::Refused(refusal) = wrapping::checks::check_points(s, out.len(), marks.len()) {
-        return HullAnswer::Refused(refusal);
-    }
+    wrapping::checks::check_points(s, out.len(), marks.len())?;
     let mut hull = no_numbers();
     let count = wrapping::convex_hull(s, &mut hull);
     if count < FEWEST {
-        return HullAnswer::Refused(Refusal {
-            number: TOO_FEW,
-            side: RefusedSide::NoSide,
-            place: Place::Nowhere,
-        });
+        return refuse(Fault::TooFew, None, Place::Nowhere);
     }
     fill(&hull[..2 * count], out);
     write_marks(s, &hull[..2 * count], marks);
-    HullAnswer::Made(count)
+    Ok(count)
 }
 
 // Finds the nearest point, to the point v, of the outline that the list `s` gives, in either orientation. The feature is
 // named by the list as given. Refusals 1 to 6 for the outline, then 7.
-pub fn nearest_point(v: Corner, s: &[i32]) -> NearestAnswer
+pub fn nearest_point(v: Corner, s: &[i32]) -> Result<NearestPoint, Refusal>
     ensures answer { result ≡ nearest_answer v s.now }
     ensures rules { IsNearestAnswer v s.now result }
 {
-    if let Verdict::Refused(refusal) = checks::check_either(s, RefusedSide::NoSide) {
-        return NearestAnswer::Refused(refusal);
-    }
+    let outline = AcceptedOutline::accept(s, None)?;
     if !plane::in_range(v) {
-        return NearestAnswer::Refused(Refusal {
-            number: POINT_OUT_OF_RANGE,
-            side: RefusedSide::NoSide,
-            place: Place::Nowhere,
-        });
+        return refuse(Fault::PointOutOfRange, None, Place::Nowhere);
     }
-    let orientation = checks::orientation(s);
-    let nearest = projection::nearest(s, orientation, v);
-    NearestAnswer::Found(answers::given_nearest(orientation, corners::count(s), nearest))
+    let nearest = projection::nearest(&outline, v);
+    Ok(answers::given_nearest(outline.orientation, outline.count(), nearest))
 }
 
-// Checks two lists: refusals 1 to 6 for A, then 1 to 6 for B. Finds the orientations of lists that are taken.
-fn check_pair(a: &[i32], b: &[i32]) -> PairVerdict
-    ensures { result ≡ check_pair a.now b.now }
+// Checks two lists: refusals 1 to 6 for A, then 1 to 6 for B. Gives the outlines of lists that are taken.
+fn accept_pair<'a>(a: &'a [i32], b: &'a [i32]) -> Result<Sides<AcceptedOutline<'a>>, Refusal>
+    ensures { MatchResult result
+        (λ outlines.
+        (outlines.a.numbers.now ≡ a.now)
+        × (outlines.b.numbers.now ≡ b.now)
+        × (check_pair a.now b.now ≡ Ok (outlines.a.orientation, outlines.b.orientation)))
+        (λ refusal. check_pair a.now b.now ≡ Err refusal) }
 {
-    if let Verdict::Refused(refusal) = checks::check_either(a, RefusedSide::Of(Side::A)) {
-        return PairVerdict::Refused(refusal);
-    }
-    if let Verdict::Refused(refusal) = checks::check_either(b, RefusedSide::Of(Side::B)) {
-        return PairVerdict::Refused(refusal);
-    }
-    PairVerdict::Taken(checks::orientation(a), checks::orientation(b))
+    Ok(Sides {
+        a: AcceptedOutline::accept(a, Some(Side::A))?,
+        b: AcceptedOutline::accept(b, Some(Side::B))?,
+    })
 }
 
 // Compares the outlines that the lists `a` and `b` give, each in either orientation, in at most `allowance` steps.
 // Corners and edges are named by the lists as given.
 // Refusals 1 to 6 for A, then 1 to 6 for B. Being spent is no refusal.
-pub fn compare(a: &[i32], b: &[i32], allowance: u32) -> Comparison
+pub fn compare(a: &[i32], b: &[i32], allowance: u32) -> Result<Report, Refusal>
     ensures answer { result ≡ comparison a.now b.now allowance }
     ensures rules { IsComparison a.now b.now allowance result }
 {
-    match check_pair(a, b) {
-        PairVerdict::Refused(refusal) => Comparison::Refused(refusal),
-        PairVerdict::Taken(of_a, of_b) => {
-            let report = comparing::compare(a, of_a, b, of_b, allowance);
-            Comparison::Reported(report)
-        }
-    }
+    let outlines = accept_pair(a, b)?;
+    Ok(comparing::compare(&outlines, allowance))
 }
 
 // Compares the outlines of two chains of linked records, which start at the indexes `a_start` and `b_start`, each in
@@ -175,31 +150,29 @@ pub fn compare(a: &[i32], b: &[i32], allowance: u32) -> Comparison
 // the next record. Record 0 is never a corner, and index 0 ends a chain. Corners, edges and places are numbered along the
 // chains.
 // Refusal 10, of A, for a store whose length is no multiple of three; then 11, 12 and 2 to 6 for A, then the same for B.
-pub fn compare_records(store: &[i32], a_start: i32, b_start: i32, allowance: u32) -> Comparison
+pub fn compare_records(
+    store: &[i32],
+    a_start: i32,
+    b_start: i32,
+    allowance: u32,
+) -> Result<Report, Refusal>
     ensures answer { result ≡ records_comparison store.now a_start b_start allowance }
     ensures rules { IsRecordsComparison store.now a_start b_start allowance result }
 {
     let mut a = no_numbers();
     let mut b = no_numbers();
-    match traversal::read_chains(store, a_start, b_start, &mut a, &mut b) {
-        ChainsVerdict::Refused(refusal) => Comparison::Refused(refusal),
-        ChainsVerdict::Ended(n, m) => compare(&a[..n], &b[..m], allowance),
-    }
+    let (n, m) = traversal::read_chains(store, a_start, b_start, &mut a, &mut b)?;
+    compare(&a[..n], &b[..m], allowance)
 }
 
 // The mismatch sum of the outlines that the lists `a` and `b` give, each in either orientation. The squared distance of
 // every corner of each to the other piece, 0 in it, is brought down to a whole number of 1/1024 square millimetres, and
 // these are added.
 // Refusals as in `compare`.
-pub fn mismatch(a: &[i32], b: &[i32]) -> MismatchAnswer
+pub fn mismatch(a: &[i32], b: &[i32]) -> Result<u64, Refusal>
     ensures answer { result ≡ mismatch_answer a.now b.now }
     ensures rules { IsMismatchAnswer a.now b.now result }
 {
-    match check_pair(a, b) {
-        PairVerdict::Refused(refusal) => MismatchAnswer::Refused(refusal),
-        PairVerdict::Taken(of_a, of_b) => {
-            let sum = summing::mismatch_sum(a, of_a, b, of_b);
-            MismatchAnswer::Summed(sum)
-        }
-    }
+    let outlines = accept_pair(a, b)?;
+    Ok(summing::mismatch_sum(&outlines.a, &outlines.b))
 }

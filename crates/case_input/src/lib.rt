@@ -3,26 +3,15 @@
 // bits.
 #![tactic(auto)]
 
-ghost use Rattle.std.specs.Prelude.{◌≡◌, ◌≤◌, length};
+ghost use Rattle.std.specs.Prelude.{ℕ, ◌≡◌, [], List, ◌↔◌, IsTrue, OnOk, length, take, drop, pos, ◌%◌, ◌+◌, ◌*◌, ◌≤◌};
+ghost use Rattle.case_input.specs.Cases.{Answers};
+ghost use Rattle.case_input.specs.Number.{run, natural, signed, after_number, with_digit, signed_numbers, after_numbers, list_length, is_negative};
+
+use std::io;
+use std::marker::Model;
 
 // More numbers than any list of an input has.
 pub const LONGEST: usize = 520;
-
-// A number by its sign and size, and the place in the input after it.
-#[derive(Clone, Copy)]
-pub struct Number {
-    pub is_negative: bool,
-    pub size: u32,
-    pub next: usize,
-}
-
-// A list of numbers, and the place in the input after it.
-#[derive(Clone, Copy)]
-pub struct List {
-    pub count: usize,
-    pub items: [i32; LONGEST],
-    pub next: usize,
-}
 
 // The longest input, in bytes.
 const ROOM: usize = 1048576;
@@ -34,105 +23,141 @@ pub fn room() -> [u8; ROOM]
     [0; ROOM]
 }
 
-fn is_digit(b: u8) -> bool {
-    b'0' <= b && b <= b'9'
-}
-
-// The place of the first digit from a place on, or the end.
-fn find_digit(s: &[u8], from: usize) -> usize {
-    let mut i = from;
-    while i < s.len() {
-        if is_digit(s[i]) {
-            return i;
-        }
-        i += 1;
-    }
-    i
-}
-
-// Whether a minus stands directly before a place.
-fn is_after_minus(s: &[u8], place: usize) -> bool {
-    if place == 0 {
-        return false;
-    }
-    if s.len() < place {
-        return false;
-    }
-    s[place - 1] == b'-'
-}
-
 // A natural number with one digit more. ASCII's digits are 48 to 57, and 48 is 3 times 16.
-fn with_digit(size: u32, b: u8) -> u32 {
-    let longer = 10 * (size as u64) + (b % 16) as u64;
-    (longer % 4294967296) as u32
+fn with_digit(size: u32, digit: u8) -> u32
+    ensures { result ≡ with_digit size digit }
+{
+    size.wrapping_mul(10).wrapping_add(u32::from(digit % 16))
 }
 
-// The number whose digits start at a place.
-fn read_digits(s: &[u8], from: usize) -> Number {
-    let is_negative = is_after_minus(s, from);
-    let mut size = 0;
-    let mut i = from;
-    while i < s.len() {
-        if !is_digit(s[i]) {
-            return Number {
-                is_negative,
-                size,
-                next: i,
-            };
+// How many digits stand at the front, or other bytes.
+fn run(s: &[u8], of_digits: bool) -> usize
+    ensures value { result ≡ run of_digits s.now }
+    ensures bound { result ≤ length s.now }
+{
+    s.iter()
+        .take_while(|b| b.is_ascii_digit() == of_digits)
+        .count()
+}
+
+// A number's low 31 bits.
+fn low_bits(size: u32) -> i32
+    ensures { result ≡ pos (size % 2147483648) }
+{
+    (size % 2147483648) as i32
+}
+
+// The bytes of an input that are not read yet. Their numbers are read in turn.
+#[derive(Drop)]
+pub struct Cursor<'a> {
+    rest: &'a [u8],
+}
+
+impl<'a> Model for Cursor<'a> {
+    ghost Value = { List ℕ };
+
+    ghost view = { λ c. c.rest.now };
+}
+
+impl<'a> Cursor<'a> {
+    pub fn new(bytes: &'a [u8]) -> Self
+        ensures { result ≡ bytes.now }
+    {
+        Cursor { rest: bytes }
+    }
+
+    pub fn is_at_end(&self) -> bool
+        ensures { IsTrue result ↔ (self.now ≡ []) }
+    {
+        self.rest.is_empty()
+    }
+
+    // Passes the digits that stand here, or the other bytes, and gives them.
+    fn pass(&mut self, digits: bool) -> &'a [u8]
+        ensures passed { result.now ≡ take (run digits self.old) self.old }
+        ensures rest { self.new ≡ drop (run digits self.old) self.old }
+    {
+        let end = run(self.rest, digits);
+        let (passed, rest) = self.rest.split_at(end);
+        self.rest = rest;
+        passed
+    }
+
+    // The next number without its sign, and whether it has a minus.
+    fn number(&mut self) -> (bool, u32)
+        ensures sign { result.0 ≡ is_negative self.old }
+        ensures size { result.1 ≡ natural self.old }
+        ensures rest { self.new ≡ after_number self.old }
+    {
+        let is_negative = self.pass(false).ends_with(b"-");
+        let size = self
+            .pass(true)
+            .iter()
+            .fold(0, |size, digit| with_digit(size, *digit));
+        (is_negative, size)
+    }
+
+    // The next number without its sign.
+    pub fn natural(&mut self) -> u32
+        ensures value { result ≡ natural self.old }
+        ensures rest { self.new ≡ after_number self.old }
+    {
+        self.number().1
+    }
+
+    // The next number.
+    pub fn signed(&mut self) -> i32
+        ensures value { result ≡ signed self.old }
+        ensures rest { self.new ≡ after_number self.old }
+    {
+        let (is_negative, size) = self.number();
+        if is_negative && 0 < size {
+            -1 - low_bits(size - 1)
+        } else {
+            low_bits(size)
         }
-        size = with_digit(size, s[i]);
-        i += 1;
     }
-    Number {
-        is_negative,
-        size,
-        next: i,
+
+    // The next two numbers as one of 64 bits, the high half first.
+    pub fn wide(&mut self) -> usize
+        ensures value { result ≡ natural self.old * 4294967296 + natural (after_number self.old) }
+        ensures rest { self.new ≡ after_number (after_number self.old) }
+    {
+        (self.natural() as usize) * 4294967296 + self.natural() as usize
     }
-}
 
-// The first number from a place on.
-pub fn read_number(s: &[u8], from: usize) -> Number {
-    read_digits(s, find_digit(s, from))
-}
-
-// The number as an i32. The least i32 is one larger in size than the greatest.
-pub fn value(number: Number) -> i32 {
-    let size = number.size;
-    if !number.is_negative {
-        return (size % 2147483648) as i32;
+    // As many numbers as a list has places, read to it.
+    fn fill(&mut self, items: &mut [i32])
+        ensures items { items.new ≡ signed_numbers (length items.old) self.old }
+        ensures rest { self.new ≡ after_numbers (length items.old) self.old }
+    {
+        for item in items.iter_mut() {
+            *item = self.signed();
+        }
     }
-    if size == 0 {
-        return 0;
+
+    // A list: how many numbers it has, and these, as far as they find room.
+    pub fn list<'b>(&mut self, room: &'b mut [i32]) -> &'b [i32]
+        ensures items { result.now ≡ signed_numbers (list_length (length room.old) self.old) (after_number self.old) }
+        ensures rest { self.new ≡ after_numbers (list_length (length room.old) self.old) (after_number self.old) }
+    {
+        let count = (self.natural() as usize).min(room.len());
+        let items = &mut room[..count];
+        self.fill(items);
+        items
     }
-    -1 - ((size - 1) % 2147483648) as i32
-}
 
-// The lesser of `most` and n.
-pub fn at_most(most: usize, n: u32) -> usize
-    ensures { result ≤ most }
-{
-    let n = n as usize;
-    if n < most { n } else { most }
-}
-
-// As many numbers as a list has places, read to it. Gives the place in the input after them.
-pub fn read_items(s: &[u8], from: usize, items: &mut [i32]) -> usize {
-    let mut next = from;
-    for i in 0..items.len() {
-        let item = read_number(s, next);
-        items[i] = value(item);
-        next = item.next;
+    // Answers each case, of which there are as many as the next number says.
+    pub fn for_each_case<F: FnMut(&mut Cursor) -> io::Result<()>>(
+        &mut self,
+        mut answer: F,
+    ) -> io::Result<()>
+        requires { F.IsAlwaysCallable answer }
+        ensures { OnOk result ((last : F) × Answers F.FnMut (natural self.old) answer (after_number self.old) last self.new) }
+    {
+        for _ in 0..self.natural() {
+            answer(self)?;
+        }
+        Ok(())
     }
-    next
-}
-
-// A list of the input: how many numbers it has, and these.
-pub fn read_list(s: &[u8], from: usize) -> List
-    ensures { result.count ≤ length result.items }
-{
-    let length = read_number(s, from);
-    let count = at_most(LONGEST, length.size);
-    let mut items = [0; LONGEST];
-    let next = read_items(s, length.next, &mut items[..count]);
-    List { count, items, next }
 }

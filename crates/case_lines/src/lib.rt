@@ -7,21 +7,26 @@ pub mod edits;
 pub mod status;
 
 use outline::Refusal;
+use std::fmt::Display;
 use std::io;
 use text::output::Text;
 
-pub fn print_natural(rt: &impl Print, n: u64) -> io::Result<()> {
-    print::text(rt, b" ")?;
-    print::natural(rt, n)
+// What stands at every place of a list to write before a call.
+pub const FILL: i32 = 77;
+
+// The numbers of a list.
+pub fn print_all<T: Display>(rt: &impl Print, numbers: &[T]) -> io::Result<()> {
+    for number in numbers {
+        print!(rt; " {number}")?;
+    }
+    Ok(())
 }
 
-pub fn print_signed(rt: &impl Print, n: i64) -> io::Result<()> {
-    print::text(rt, b" ")?;
-    print::signed(rt, n)
-}
-
-pub fn print_coordinate(rt: &impl Print, n: i32) -> io::Result<()> {
-    print_signed(rt, n as i64)
+// Ends a line with a list.
+pub fn print_list<T: Display>(rt: &impl Print, numbers: &[T]) -> io::Result<()> {
+    print!(rt; " list")?;
+    print_all(rt, numbers)?;
+    println!(rt; "")
 }
 
 pub fn print_refusal(rt: &impl Print, refusal: Refusal) -> io::Result<()> {

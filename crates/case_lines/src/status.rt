@@ -1,7 +1,12 @@
 // The line of a C function: its name, the numbers of the status and, after `list`, those of the list to write:
 //     NAME CODE SIDE PLACES FIRST SECOND list NUMBER ..
-use crate::{print_natural, print_signed};
+ghost use Rattle.std.specs.Prelude.{◌≡◌, take, drop};
+ghost use Rattle.std.specs.Fn.{FnOnceReturnsAtMut};
+ghost use Rattle.encoding.specs.declared.status.Status.{Status};
+
+use crate::print_list;
 use encoding::status::Status;
+use std::fmt::Display;
 use std::io;
 
 // What stands at every place of a result list before a call.
@@ -11,25 +16,31 @@ pub const RESULT_FILL: i64 = 77;
 pub const LONGEST_RESULT: usize = 40;
 
 pub fn print_status(rt: &impl Print, name: &[u8], status: Status) -> io::Result<()> {
-    print::text(rt, name)?;
-    print_natural(rt, status.code as u64)?;
-    print_natural(rt, status.side as u64)?;
-    print_natural(rt, status.places as u64)?;
-    print_natural(rt, status.first as u64)?;
-    print_natural(rt, status.second as u64)
+    let Status {
+        code,
+        side,
+        places,
+        first,
+        second,
+    } = status;
+    rt.write_all(name)?;
+    print!(rt; " {code} {side} {places} {first} {second}")
 }
 
-// The numbers of a result list.
-pub fn print_numbers(rt: &impl Print, s: &[i64]) -> io::Result<()> {
-    for i in 0..s.len() {
-        print_signed(rt, s[i])?;
-    }
-    Ok(())
-}
-
-// Ends a line with a result list.
-pub fn print_result(rt: &impl Print, s: &[i64]) -> io::Result<()> {
-    print::text(rt, b" list")?;
-    print_numbers(rt, s)?;
-    print::text(rt, b"\n")
+// Calls a C function with a list to write, so many places of a room, as far as it has them, and prints the line.
+pub fn print_call<T: Display, F: FnOnce(&mut [T]) -> Status>(
+    rt: &impl Print,
+    name: &[u8],
+    room: &mut [T],
+    length: usize,
+    call: F,
+) -> io::Result<()>
+    requires { F.IsAlwaysCallable call }
+    ensures called { (status : Status) × FnOnceReturnsAtMut F.FnOnce call (take length room.old) status (take length room.new) }
+    ensures kept { drop length room.new ≡ drop length room.old }
+{
+    let length = length.min(room.len());
+    let list = &mut room[..length];
+    print_status(rt, name, call(list))?;
+    print_list(rt, list)
 }

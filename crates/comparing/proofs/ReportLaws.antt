@@ -3,7 +3,7 @@
 --     or_within-bounded     the gap of a side's answer can be compared exactly
 --     worse-positive       and the gap of the worse of two has a lower number above 0
 --     after-reportable     the state after k steps has what reporting asks
---     steps_made            the steps that are made: all N, or as many as are allowed
+--     steps_made, min-steps    the steps that are made: all N, or as many as are allowed; the lesser of the two
 --     report_of-after       what is reported after them is `report`, by the lists as given
 use Prim.Native.Nat.{ℕ, ◌<◌}
 use mathlib.Core.List.{List}
@@ -12,6 +12,7 @@ use mathlib.Core.Bool.{Bool, true, false, cond}
 use native.Mathlib.Omega.{arith}
 use lib.Dec.{ltb, lit<}
 use lib.ListN.{length}
+use Rattle.std.specs.Prelude.{min, Option, None, Some}
 use Rattle.integers.specs.Fraction.{is_less}
 use Rattle.integers.specs.code.Fraction.{Bounded}
 use Rattle.plane.specs.declared.Corner.{Corner}
@@ -24,8 +25,6 @@ use Rattle.outline.proofs.EdgeLaws.{accepted-polygon}
 use Rattle.outline.proofs.OrientationLaws.{given-first, held-length, held-corner-given}
 use Rattle.nearest.specs.Feature.{within_values}
 use Rattle.hausdorff.specs.declared.CornerGap.{CornerGap}
-use Rattle.hausdorff.specs.declared.WorstSoFar.{WorstSoFar}
-use Rattle.hausdorff.specs.declared.WorstSoFar.TheVariants.{None, Worst}
 use Rattle.hausdorff.specs.declared.Report.TheVariants as Report
 use Rattle.hausdorff.specs.Pair.{Pair, Orientations, step_count}
 use Rattle.hausdorff.specs.code.Pair.{AcceptedPair, Polygons}
@@ -50,9 +49,9 @@ listed-held o cs some = λ i. record {
 }
 
 -- within, the gap is 0/1
-pub or_within-bounded : (s : Side) (first : Corner) (x : WorstSoFar) → BoundedWorst x → Bounded (or_within s first x).gap
+pub or_within-bounded : (s : Side) (first : Corner) (x : Option CornerGap) → BoundedWorst x → Bounded (or_within s first x).gap
 or_within-bounded s first None bounded = record { lower_positive = omega arith; lower_fits = lit< tt }
-or_within-bounded s first (Worst w) bounded = bounded
+or_within-bounded s first (Some w) bounded = bounded
 
 -- the worse of two is one of them
 pub worse-positive : (w z : CornerGap) → Bounded w.gap → Bounded z.gap → 0 < (worse w z).gap.lower
@@ -64,6 +63,9 @@ worse-positive w z of-w of-z = go (is_less w.gap z.gap)
 
 abbrev pub steps_made : ℕ → ℕ → ℕ
 steps_made total allowance = cond (ltb allowance total) allowance total
+
+pub min-steps : (total allowance : ℕ) → min allowance total ≡ steps_made total allowance
+min-steps total allowance = grind arith
 
 module _ (pair : Pair) (os : Orientations) where
   -- what a report needs of a side's list
@@ -78,20 +80,20 @@ module _ (pair : Pair) (os : Orientations) where
       go true = refl
       go false = refl
 
-  given-overall : (x y : WorstSoFar)
+  given-overall : (x y : Option CornerGap)
       → overall (given_worst pair os x) (given_worst pair os y) ≡ given_worst pair os (overall x y)
   given-overall None y = refl
-  given-overall (Worst w) None = refl
-  given-overall (Worst w) (Worst z) = ap Worst (given-worse w z)
+  given-overall (Some w) None = refl
+  given-overall (Some w) (Some z) = ap Some (given-worse w z)
 
   module _ (polygons : Polygons pair) where
     -- corner 0 stays corner 0
-    given-or_within : (s : Side) (x : WorstSoFar)
+    given-or_within : (s : Side) (x : Option CornerGap)
         → or_within s (corner (pair s) 0) (given_worst pair os x) ≡ given_gap pair os (or_within s (corner (pair s) 0) x)
     given-or_within s None =
         ap (λ (i : ℕ). with_corner s i (within_values (corner (pair s) 0)))
         (sym (given-first (os s) (length (pair s)) (omega (arith, (polygons s).at_least))))
-    given-or_within s (Worst w) = refl
+    given-or_within s (Some w) = refl
 
   -- a support corner is one of its outline
   support-below : Polygons pair → {k : ℕ} {state : State} → IsAfter pair os k state → (s : Side)

@@ -1,2 +1,3 @@
 -- What the code of comparing needs beside the definitions of `hausdorff`.
+pub mod Outlines
 pub mod ReportOf

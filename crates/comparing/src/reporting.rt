@@ -6,11 +6,7 @@ ghost use Rattle.hausdorff.specs.Law.{or_within};
 ghost use Rattle.measuring.specs.Changes.{BoundedWorst};
 ghost use Rattle.comparing.specs.ReportOf.{Reportable, spent_of, done_of, report_of};
 
-use hausdorff::{
-    CornerGap, Done, Report, SideAnswers, SideWorsts, Spent, SupportCorners, WorstSoFar,
-};
-use integers::fraction::Order;
-use integers::{fraction, root};
+use hausdorff::{CornerGap, Done, Report, Sides, Spent};
 use outline::{Orientation, Side};
 use plane::Corner;
 use projection::answers;
@@ -31,36 +27,26 @@ fn worse(w: CornerGap, z: CornerGap) -> CornerGap
     requires bounded_2 { Bounded z.gap }
     ensures { result ≡ worse w z }
 {
-    match fraction::compare(w.gap, z.gap) {
-        Order::Less => z,
-        Order::Equal => w,
-        Order::Greater => w,
-    }
+    if w.gap.compare(z.gap).is_lt() { z } else { w }
 }
 
 // The worse of A's and B's, A's where the gaps are equal; none if both are none.
-fn overall(a: WorstSoFar, b: WorstSoFar) -> WorstSoFar
+fn overall(a: Option<CornerGap>, b: Option<CornerGap>) -> Option<CornerGap>
     requires bounded_worst { BoundedWorst a }
     requires bounded_worst_2 { BoundedWorst b }
     ensures { result ≡ overall a b }
 {
-    match a {
-        WorstSoFar::None => b,
-        WorstSoFar::Worst(w) => match b {
-            WorstSoFar::None => a,
-            WorstSoFar::Worst(z) => WorstSoFar::Worst(worse(w, z)),
-        },
+    match (a, b) {
+        (Some(w), Some(z)) => Some(worse(w, z)),
+        _ => a.or(b),
     }
 }
 
 // The answer of a side: its worst so far after all steps or, if that is none, its corner 0, at `first`, within.
-fn or_within(side: Side, first: Corner, worst: WorstSoFar) -> CornerGap
+fn or_within(side: Side, first: Corner, worst: Option<CornerGap>) -> CornerGap
     ensures { result ≡ or_within side first worst }
 {
-    match worst {
-        WorstSoFar::Worst(w) => w,
-        WorstSoFar::None => measuring::with_corner(side, 0, answers::within(first)),
-    }
+    worst.unwrap_or_else(|| measuring::with_corner(side, 0, answers::within(first)))
 }
 
 // What is reported after fewer steps than there are.
@@ -68,21 +54,17 @@ fn spent_of(state: State, steps: u32, listed_a: Listed, listed_b: Listed) -> Spe
     requires { Reportable state listed_a listed_b }
     ensures { result ≡ spent_of state steps listed_a listed_b }
 {
-    let side_a = state.a;
-    let side_b = state.b;
-    let a = side_a.worst;
-    let b = side_b.worst;
-    let worst = overall(a, b);
-    let of_a = listed_a.orientation;
-    let of_b = listed_b.orientation;
     Spent {
-        steps: steps,
-        support: SupportCorners {
-            a: given_corner(of_a, listed_a.count, side_a.support),
-            b: given_corner(of_b, listed_b.count, side_b.support),
+        steps,
+        support: Sides {
+            a: given_corner(listed_a.orientation, listed_a.count, state.a.support),
+            b: given_corner(listed_b.orientation, listed_b.count, state.b.support),
         },
-        worst: worst,
-        sides: SideWorsts { a, b },
+        worst: overall(state.a.worst, state.b.worst),
+        sides: Sides {
+            a: state.a.worst,
+            b: state.b.worst,
+        },
     }
 }
 
@@ -91,19 +73,14 @@ fn done_of(state: State, steps: u32, listed_a: Listed, listed_b: Listed) -> Done
     requires { Reportable state listed_a listed_b }
     ensures { result ≡ done_of state steps listed_a listed_b }
 {
-    let side_a = state.a;
-    let side_b = state.b;
-    let worst_a = side_a.worst;
-    let worst_b = side_b.worst;
-    let a = or_within(Side::A, listed_a.first, worst_a);
-    let b = or_within(Side::B, listed_b.first, worst_b);
+    let a = or_within(Side::A, listed_a.first, state.a.worst);
+    let b = or_within(Side::B, listed_b.first, state.b.worst);
     let answer = worse(a, b);
-    let gap = answer.gap;
     Done {
-        steps: steps,
-        answer: answer,
-        clearance: root::ceiling_root(gap),
-        sides: SideAnswers { a, b },
+        steps,
+        answer,
+        clearance: answer.gap.ceiling_root(),
+        sides: Sides { a, b },
     }
 }
 

@@ -14,14 +14,12 @@ use mathlib.Core.List.{List}
 use lib.Dec.{eqb}
 use lib.IntN.{ℤ}
 use lib.ListN.{length}
+use Rattle.std.specs.Prelude.{None, Ok, Err}
 use Rattle.integers.proofs.Reflect.{test-not, test-eqb}
 use Rattle.plane.specs.declared.Corner.{Corner}
 use Rattle.plane.specs.Vector.{coordinates}
 use Rattle.outline.specs.declared.Refusal.{Refusal}
-use Rattle.outline.specs.declared.RefusedSide.TheVariants.{NoSide}
-use Rattle.outline.specs.declared.Verdict.{Verdict}
-use Rattle.outline.specs.declared.Verdict.TheVariants.{Taken, Refused}
-use Rattle.outline.specs.code.Checks.{if_taken}
+use Rattle.outline.specs.code.Checks.{Verdict, if_taken}
 use Rattle.outline.specs.Conditions.{AcceptedList}
 use Rattle.outline.specs.Convex.{Accepted}
 use Rattle.outline.specs.Refusal.{Condition, Applies, FirstFault}
@@ -35,27 +33,27 @@ module _ (cs : List Corner) (room : ℕ) where
   long = length (coordinates cs)
 
   pub room-decides : Decides (check_room cs room) (wrong_length cs room)
-  room-decides = test-decides _ NoSide _ (test-not (eqb room long) (test-eqb room long))
+  room-decides = test-decides _ None _ (test-not (eqb room long) (test-eqb room long))
 
   pub room-right : ¬ Applies (wrong_length cs room) → room ≡ long
   room-right = plain_stable (eqb room long) (test-eqb room long)
 
 module _ (written before : List ℤ) {verdict : Verdict} where
-  pub list-refused : {r : Refusal} → verdict ≡ Refused r → if_taken verdict written before ≡ before
+  pub list-refused : {r : Refusal} → verdict ≡ Err r → if_taken verdict written before ≡ before
   list-refused e = rw e
 
-  pub list-taken : verdict ≡ Taken → if_taken verdict written before ≡ written
+  pub list-taken : verdict ≡ Ok tt → if_taken verdict written before ≡ written
   list-taken e = rw e
 
 -- the verdict is that of the conditions, and what is permitted gives accepted corners
 pub record Judges (conditions : List Condition) (permitted : Type 0) (cs : List Corner) (verdict : Verdict) : Type 0 where
-  pub refuses : (r : Refusal) → (verdict ≡ Refused r) ↔ FirstFault conditions r
-  pub takes : (verdict ≡ Taken) ↔ permitted
+  pub refuses : (r : Refusal) → (verdict ≡ Err r) ↔ FirstFault conditions r
+  pub takes : (verdict ≡ Ok tt) ↔ permitted
   pub accepts : permitted → Accepted cs
 
 module _ {conditions : List Condition} {permitted : Type 0} {cs : List Corner} {verdict : Verdict}
     (judges : Judges conditions permitted cs verdict) where
-  pub edit-accepted : verdict ≡ Taken → AcceptedList (coordinates cs)
+  pub edit-accepted : verdict ≡ Ok tt → AcceptedList (coordinates cs)
   edit-accepted is = (coordinates-accepted cs).1 (judges.accepts (judges.takes.0 is))
 
   module _ (before : List ℤ) where
@@ -67,8 +65,8 @@ module _ {conditions : List Condition} {permitted : Type 0} {cs : List Corner} {
     is-edit = go verdict refl
       where
         go : (v : Verdict) → verdict ≡ v → IsEdit conditions permitted cs before verdict list
-        go (Refused r) is = refused r ((judges.refuses r).0 is) is (list-refused (coordinates cs) before is)
-        go Taken is =
+        go (Err r) is = refused r ((judges.refuses r).0 is) is (list-refused (coordinates cs) before is)
+        go (Ok _) is =
             let written = list-taken (coordinates cs) before is in
             edited (judges.takes.0 is) (rw written (edit-accepted is)) is written
 

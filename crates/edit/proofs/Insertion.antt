@@ -15,15 +15,14 @@ use mathlib.Core.List.{List, ◌++◌}
 use native.Mathlib.Omega.{arith}
 use lib.IntN.{ℤ}
 use lib.ListN.{length}
+use Rattle.std.specs.Prelude.{None, Ok, Err}
 use Rattle.integers.proofs.Reflect.{test-eqb, test-ltb}
 use Rattle.plane.specs.declared.Corner.{Corner}
 use Rattle.plane.specs.Range.{InRange}
 use Rattle.plane.specs.Vector.{coordinates}
+use Rattle.outline.specs.code.Checks.{Verdict}
 use Rattle.outline.specs.declared.Place.TheVariants.{Nowhere}
 use Rattle.outline.specs.declared.Refusal.{Refusal}
-use Rattle.outline.specs.declared.RefusedSide.TheVariants.{NoSide}
-use Rattle.outline.specs.declared.Verdict.{Verdict}
-use Rattle.outline.specs.declared.Verdict.TheVariants.{Taken, Refused}
 use Rattle.outline.specs.Conditions.{reading_conditions, AcceptedList}
 use Rattle.outline.specs.Corners.{corners, fewest, most}
 use Rattle.outline.specs.code.Reading.{checks}
@@ -52,9 +51,9 @@ pub record Placed (cs : List Corner) (k : ℕ) (v : Corner) (room : ℕ) : Type 
 module _ (cs : List Corner) (k : ℕ) (v : Corner) (room : ℕ) where
   placing-decide : AllDecide (placing_checks cs k v room) (placing_conditions cs k v room)
   placing-decide =
-      test-decides _ NoSide _ (test-ltb (length cs) k)
+      test-decides _ None _ (test-ltb (length cs) k)
       and point-decides v
-      and test-decides _ NoSide _ (test-eqb (length cs) most)
+      and test-decides _ None _ (test-eqb (length cs) most)
       and room-decides (inserted k v cs) room
       and tt
 
@@ -78,7 +77,7 @@ module _ (cs : List Corner) (k : ℕ) (v : Corner) (room : ℕ) where
           and nowhere-plain (λ other. other h.long)
           and tt
 
-  pub placing-taken : (check_placing cs k v room ≡ Taken) ↔ Placed cs k v room
+  pub placing-taken : (check_placing cs k v room ≡ Ok tt) ↔ Placed cs k v room
   unfolding check_placing
   placing-taken =
       Iff.trans (first_taken (placing_checks cs k v room) (placing_conditions cs k v room) placing-decide) placing-none
@@ -100,26 +99,26 @@ module _ (s : List ℤ) (k : ℕ) (v : Corner) (room : ℕ) where
 
   decide : AllDecide (insertion_checks s k v room) (insertion_conditions s k v room)
   decide =
-      decide-append (checks NoSide s) later_checks (reading_conditions NoSide s) later_conditions (checks-decide NoSide s)
+      decide-append (checks None s) later_checks (reading_conditions None s) later_conditions (checks-decide None s)
       (decide-append (placing_checks cs k v room) (result_checks result) (placing_conditions cs k v room)
-      (result_conditions result) (placing-decide cs k v room) (shape-decide result NoSide))
+      (result_conditions result) (placing-decide cs k v room) (shape-decide result None))
 
   pub insertion-refused : (r : Refusal)
-      → (check_insertion s k v room ≡ Refused r) ↔ FirstFault (insertion_conditions s k v room) r
+      → (check_insertion s k v room ≡ Err r) ↔ FirstFault (insertion_conditions s k v room) r
   unfolding check_insertion
   insertion-refused = first-refused (insertion_checks s k v room) (insertion_conditions s k v room) decide
 
-  pub insertion-taken : (check_insertion s k v room ≡ Taken) ↔ PermittedInsertion s k v room
+  pub insertion-taken : (check_insertion s k v room ≡ Ok tt) ↔ PermittedInsertion s k v room
   unfolding check_insertion
   insertion-taken =
       Iff.trans (first_taken (insertion_checks s k v room) (insertion_conditions s k v room) decide)
-      (Iff.trans (none-append (reading_conditions NoSide s) later_conditions) (there, back))
+      (Iff.trans (none-append (reading_conditions None s) later_conditions) (there, back))
     where
-      there : NoneApplies (reading_conditions NoSide s) × NoneApplies later_conditions → PermittedInsertion s k v room
+      there : NoneApplies (reading_conditions None s) × NoneApplies later_conditions → PermittedInsertion s k v room
       there (none, later) =
           let (none-placing, none-shape) =
           (none-append (placing_conditions cs k v room) (result_conditions result)).0 later in
-          let ok = (none-accepted NoSide s).0 none in
+          let ok = (none-accepted None s).0 none in
           let placed = (placing-none cs k v room).0 none-placing in
           let count = length_inserted k v cs in
           let enough : fewest ≤ length result = omega (arith, ok.1.at_least, count) in record {
@@ -130,11 +129,11 @@ module _ (s : List ℤ) (k : ℕ) (v : Corner) (room : ℕ) where
               at_least = enough;
               at_most = omega (arith, ok.1.at_most, placed.fewer, count);
               all_in_range = inserted-in-range k v cs placed.known placed.all_in_range ok.1.all_in_range;
-              convex = (shape-none result NoSide enough).0 none-shape;
+              convex = (shape-none result None enough).0 none-shape;
             };
           }
 
-      back : PermittedInsertion s k v room → NoneApplies (reading_conditions NoSide s) × NoneApplies later_conditions
+      back : PermittedInsertion s k v room → NoneApplies (reading_conditions None s) × NoneApplies later_conditions
       back may =
           let ok = may.result in
           let count = length_inserted k v cs in
@@ -144,13 +143,13 @@ module _ (s : List ℤ) (k : ℕ) (v : Corner) (room : ℕ) where
             fewer = omega (arith, ok.at_most, count);
             long = may.long;
           } in (
-            (none-accepted NoSide s).1 may.accepted,
+            (none-accepted None s).1 may.accepted,
             (none-append (placing_conditions cs k v room) (result_conditions result)).1
-                ((placing-none cs k v room).1 placed, (shape-none result NoSide ok.at_least).1 ok.convex),
+                ((placing-none cs k v room).1 placed, (shape-none result None ok.at_least).1 ok.convex),
           )
 
 module _ (s : List ℤ) (k : ℕ) (v : Corner) (out : List ℤ) where
-  pub insertion-able : insertion_verdict s k v out ≡ Taken → Insertable s k v out
+  pub insertion-able : insertion_verdict s k v out ≡ Ok tt → Insertable s k v out
   insertion-able e = let may = (insertion-taken s k v (length out)).0 e in record { known = may.known; long = may.long }
 
   judges : Judges (insertion_conditions s k v (length out)) (PermittedInsertion s k v (length out))
@@ -161,7 +160,7 @@ module _ (s : List ℤ) (k : ℕ) (v : Corner) (out : List ℤ) where
     accepts = λ may. may.result;
   }
 
-  pub insertion-accepted : insertion_verdict s k v out ≡ Taken → AcceptedList (coordinates (inserted k v (corners s)))
+  pub insertion-accepted : insertion_verdict s k v out ≡ Ok tt → AcceptedList (coordinates (inserted k v (corners s)))
   insertion-accepted = edit-accepted judges
 
   pub is-insertion : IsInsertion s k v out (insertion_verdict s k v out) (insertion_list s k v out)

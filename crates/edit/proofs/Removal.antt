@@ -15,13 +15,12 @@ use mathlib.Core.List.{List}
 use native.Mathlib.Omega.{arith}
 use lib.IntN.{ℤ}
 use lib.ListN.{length}
+use Rattle.std.specs.Prelude.{None, Ok, Err}
 use Rattle.integers.proofs.Reflect.{test-eqb, test-leb}
 use Rattle.plane.specs.Vector.{coordinates}
+use Rattle.outline.specs.code.Checks.{Verdict}
 use Rattle.outline.specs.declared.Place.TheVariants.{Nowhere}
 use Rattle.outline.specs.declared.Refusal.{Refusal}
-use Rattle.outline.specs.declared.RefusedSide.TheVariants.{NoSide}
-use Rattle.outline.specs.declared.Verdict.{Verdict}
-use Rattle.outline.specs.declared.Verdict.TheVariants.{Taken, Refused}
 use Rattle.outline.specs.Conditions.{reading_conditions, AcceptedList}
 use Rattle.outline.specs.Corners.{corners}
 use Rattle.outline.specs.code.Reading.{checks}
@@ -42,45 +41,45 @@ module _ (s : List ℤ) (k room : ℕ) where
 
   decide : AllDecide (removal_checks s k room) (removal_conditions s k room)
   decide =
-      decide-append (checks NoSide s) (own_checks (corners s) k room)
-      (reading_conditions NoSide s) (own_conditions (corners s) k room)
-      (checks-decide NoSide s) (
-      test-decides _ NoSide _ (test-leb n k)
-      and test-decides _ NoSide _ (test-eqb n smallest)
+      decide-append (checks None s) (own_checks (corners s) k room)
+      (reading_conditions None s) (own_conditions (corners s) k room)
+      (checks-decide None s) (
+      test-decides _ None _ (test-leb n k)
+      and test-decides _ None _ (test-eqb n smallest)
       and room-decides (without k (corners s)) room
       and tt
       )
 
-  pub removal-refused : (r : Refusal) → (check_removal s k room ≡ Refused r) ↔ FirstFault (removal_conditions s k room) r
+  pub removal-refused : (r : Refusal) → (check_removal s k room ≡ Err r) ↔ FirstFault (removal_conditions s k room) r
   unfolding check_removal
   removal-refused = first-refused (removal_checks s k room) (removal_conditions s k room) decide
 
-  pub removal-taken : (check_removal s k room ≡ Taken) ↔ Permitted s k room
+  pub removal-taken : (check_removal s k room ≡ Ok tt) ↔ Permitted s k room
   unfolding check_removal
   removal-taken =
       Iff.trans (first_taken (removal_checks s k room) (removal_conditions s k room) decide)
-      (Iff.trans (none-append (reading_conditions NoSide s) (own_conditions (corners s) k room)) (there, back))
+      (Iff.trans (none-append (reading_conditions None s) (own_conditions (corners s) k room)) (there, back))
     where
-      there : NoneApplies (reading_conditions NoSide s) × NoneApplies (own_conditions (corners s) k room)
+      there : NoneApplies (reading_conditions None s) × NoneApplies (own_conditions (corners s) k room)
           → Permitted s k room
       there (none, (not-past, (not_three, (not-other, _)))) =
           let reached : ¬ (n ≤ k) = λ past. not-past (Nowhere, (refl, past)) in record {
-            accepted = (none-accepted NoSide s).0 none;
+            accepted = (none-accepted None s).0 none;
             known = omega arith;
             more = λ three. not_three (Nowhere, (refl, three));
             long = room-right (without k (corners s)) room not-other;
           }
 
       back : Permitted s k room
-          → NoneApplies (reading_conditions NoSide s) × NoneApplies (own_conditions (corners s) k room)
+          → NoneApplies (reading_conditions None s) × NoneApplies (own_conditions (corners s) k room)
       back h = (
-        (none-accepted NoSide s).1 h.accepted,
+        (none-accepted None s).1 h.accepted,
         nowhere-plain (λ past. omega (arith, h.known)) and nowhere-plain h.more
             and nowhere-plain (λ other. other h.long) and tt,
       )
 
 module _ (s : List ℤ) (k : ℕ) (out : List ℤ) where
-  pub removal-able : removal_verdict s k out ≡ Taken → Removable s k out
+  pub removal-able : removal_verdict s k out ≡ Ok tt → Removable s k out
   removal-able e = let may = (removal-taken s k (length out)).0 e in record { known = may.known; long = may.long }
 
   -- four corners or more, less one
@@ -93,7 +92,7 @@ module _ (s : List ℤ) (k : ℕ) (out : List ℤ) where
         without-accepted (corners s) k ok (omega (arith, ok.at_least, may.more)) may.known);
   }
 
-  pub removal-accepted : removal_verdict s k out ≡ Taken → AcceptedList (coordinates (without k (corners s)))
+  pub removal-accepted : removal_verdict s k out ≡ Ok tt → AcceptedList (coordinates (without k (corners s)))
   removal-accepted = edit-accepted judges
 
   pub is-removal : IsRemoval s k out (removal_verdict s k out) (list_after s k out)

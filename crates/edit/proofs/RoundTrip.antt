@@ -9,10 +9,10 @@ use mathlib.Core.List.{List}
 use native.Mathlib.Omega.{arith}
 use lib.IntN.{ℤ}
 use lib.ListN.{length}
+use Rattle.std.specs.Prelude.{Ok}
 use Rattle.plane.specs.declared.Corner.{Corner}
 use Rattle.plane.specs.Vector.{coordinates}
-use Rattle.outline.specs.declared.Verdict.{Verdict}
-use Rattle.outline.specs.declared.Verdict.TheVariants.{Taken}
+use Rattle.outline.specs.code.Checks.{Verdict}
 use Rattle.outline.specs.Corners.{corners, corner}
 use Rattle.outline.proofs.CornersLaws.{corners-coordinates, coordinates-corners}
 use Rattle.edit.specs.Removal.{without, IsRemoval}
@@ -34,13 +34,13 @@ module _ (s : List ℤ) (k : ℕ) where
   rest = without k (corners s)
 
   module _ (out back : List ℤ) (long : length back ≡ length s) where
-    pub remove-insert : removal_verdict s k out ≡ Taken
-        → (insertion_verdict (list_after s k out) k v back ≡ Taken) × (insertion_list (list_after s k out) k v back ≡ s)
+    pub remove-insert : removal_verdict s k out ≡ Ok tt
+        → (insertion_verdict (list_after s k out) k v back ≡ Ok tt) × (insertion_list (list_after s k out) k v back ≡ s)
     remove-insert takes =
         let may = (removal-taken s k (length out)).0 takes in
         let again : inserted k v rest ≡ corners s = inserted-without k (corners s) may.known in
         let old = coordinates-corners s may.accepted.0 in
-        let inserts : insertion_verdict (coordinates rest) k v back ≡ Taken =
+        let inserts : insertion_verdict (coordinates rest) k v back ≡ Ok tt =
         (insertion-taken (coordinates rest) k v (length back)).1 (record {
           accepted = removal-accepted s k out takes;
           known = rw (corners-coordinates rest) (omega (arith, may.known, length_without k (corners s) may.known));
@@ -50,8 +50,8 @@ module _ (s : List ℤ) (k : ℕ) where
         rw (list-taken (coordinates rest) out takes)
         (inserts, list-taken _ back inserts ∙ rw (corners-coordinates rest, again) old)
 
-    pub promised-insert : {after back-after : List ℤ} {answer : Verdict} → IsRemoval s k out Taken after
-        → IsInsertion after k v back answer back-after → (answer ≡ Taken) × (back-after ≡ s)
+    pub promised-insert : {after back-after : List ℤ} {answer : Verdict} → IsRemoval s k out (Ok tt) after
+        → IsInsertion after k v back answer back-after → (answer ≡ Ok tt) × (back-after ≡ s)
     promised-insert removal insertion =
         let (takes, written) = removal-unique s k out removal in
         let (is, back_is) = insertion-unique _ k v back insertion in
@@ -64,14 +64,14 @@ module _ (s : List ℤ) (k : ℕ) (v : Corner) where
   more = inserted k v (corners s)
 
   module _ (out back : List ℤ) (long : length back ≡ length s) where
-    pub insert-remove : insertion_verdict s k v out ≡ Taken
-        → (removal_verdict (insertion_list s k v out) k back ≡ Taken) × (list_after (insertion_list s k v out) k back ≡ s)
+    pub insert-remove : insertion_verdict s k v out ≡ Ok tt
+        → (removal_verdict (insertion_list s k v out) k back ≡ Ok tt) × (list_after (insertion_list s k v out) k back ≡ s)
     insert-remove takes =
         let may = (insertion-taken s k v (length out)).0 takes in
         let count = length_inserted k v (corners s) in
         let again : without k more ≡ corners s = without-inserted k v (corners s) may.known in
         let old = coordinates-corners s may.accepted.0 in
-        let removes : removal_verdict (coordinates more) k back ≡ Taken =
+        let removes : removal_verdict (coordinates more) k back ≡ Ok tt =
         (removal-taken (coordinates more) k (length back)).1 (record {
           accepted = insertion-accepted s k v out takes;
           known = rw (corners-coordinates more) (omega (arith, may.known, count));
@@ -81,8 +81,8 @@ module _ (s : List ℤ) (k : ℕ) (v : Corner) where
         rw (list-taken (coordinates more) out takes)
         (removes, list-taken _ back removes ∙ rw (corners-coordinates more, again) old)
 
-    pub promised-remove : {after back-after : List ℤ} {answer : Verdict} → IsInsertion s k v out Taken after
-        → IsRemoval after k back answer back-after → (answer ≡ Taken) × (back-after ≡ s)
+    pub promised-remove : {after back-after : List ℤ} {answer : Verdict} → IsInsertion s k v out (Ok tt) after
+        → IsRemoval after k back answer back-after → (answer ≡ Ok tt) × (back-after ≡ s)
     promised-remove insertion removal =
         let (takes, written) = insertion-unique s k v out insertion in
         let (is, back_is) = removal-unique _ k back removal in

@@ -1,10 +1,11 @@
 -- Rule 7.9: inserting a point v as corner k into the outline that a list s gives, with the corners of the result written
 -- to a list of length `room`.
-use Rattle.std.specs.Prelude.{ℕ, ◌≤◌, ◌<◌, ◌≡◌, List, [], ◌∷◌, ◌++◌, ℤ, length, take, drop}
+use Rattle.outline.specs.declared.Refusal.{Refusal}
+use Rattle.outline.specs.declared.Fault.TheVariants.{TooMany, NoSuchCorner}
+use Rattle.outline.specs.Refusal.{condition}
+use Rattle.std.specs.Prelude.{ℕ, ◌≤◌, ◌<◌, ◌≡◌, List, [], ◌∷◌, ◌++◌, ℤ, length, take, drop, None, Result, ⊤}
 use Rattle.plane.specs.declared.Corner.{Corner}
 use Rattle.plane.specs.Vector.{coordinates}
-use Rattle.outline.specs.declared.RefusedSide.TheVariants.{NoSide}
-use Rattle.outline.specs.declared.Verdict.{Verdict}
 use Rattle.outline.specs.Conditions.{repeated, not_left, point_out_of_range, reading_conditions, AcceptedList}
 use Rattle.outline.specs.Convex.{Accepted}
 use Rattle.outline.specs.Corners.{corners, most}
@@ -18,11 +19,11 @@ inserted k v cs = take k cs ++ (v ∷ drop k cs)
 
 -- 8, a place past the count of corners
 abbrev pub past_count : List Corner → ℕ → Condition
-past_count cs k = record { number = 8; side = NoSide; applies = without_place (length cs < k) }
+past_count cs k = condition NoSuchCorner None (without_place (length cs < k))
 
 -- 3, there are 256 corners already
 abbrev pub full : List Corner → Condition
-full cs = record { number = 3; side = NoSide; applies = without_place (length cs ≡ most) }
+full cs = condition TooMany None (without_place (length cs ≡ most))
 
 -- 8, 7, 3 and 9
 abbrev pub placing_conditions : List Corner → ℕ → Corner → ℕ → List Condition
@@ -31,12 +32,12 @@ placing_conditions cs k v room =
 
 -- 5 and 6 for the result, with places in the result. 1 to 4 cannot apply to it where none of the conditions before does
 abbrev pub result_conditions : List Corner → List Condition
-result_conditions result = repeated NoSide result ∷ not_left NoSide result ∷ []
+result_conditions result = repeated None result ∷ not_left None result ∷ []
 
 -- rule 2.9: 1 to 6 of the list s, read strictly, then 8, 7, 3 and 9, and last 5 and 6 for the result
 abbrev pub insertion_conditions : List ℤ → ℕ → Corner → ℕ → List Condition
 insertion_conditions s k v room =
-    reading_conditions NoSide s
+    reading_conditions None s
     ++ (placing_conditions (corners s) k v room ++ result_conditions (inserted k v (corners s)))
 
 -- what an insertion asks: a list that is accepted strictly, a place from 0 to its corner count, a list to write exactly as
@@ -48,8 +49,8 @@ pub record PermittedInsertion (s : List ℤ) (k : ℕ) (v : Corner) (room : ℕ)
   pub long : room ≡ length (coordinates (inserted k v (corners s)))
   pub result : Accepted (inserted k v (corners s))
 
--- what the call gives, and what the list to write holds then, which held `out`: a refusal, and what it held; or Taken,
+-- what the call gives, and what the list to write holds then, which held `out`: a refusal, and what it held; or Ok,
 -- and the corners with v as corner k
-abbrev pub IsInsertion : List ℤ → ℕ → Corner → List ℤ → Verdict → List ℤ → Type 0
+abbrev pub IsInsertion : List ℤ → ℕ → Corner → List ℤ → Result ⊤ Refusal → List ℤ → Type 0
 IsInsertion s k v out =
     IsEdit (insertion_conditions s k v (length out)) (PermittedInsertion s k v (length out)) (inserted k v (corners s)) out

@@ -1,10 +1,11 @@
 -- Rule 7.5: removing corner k from the outline that a list s gives, with the other corners written to a list of
 -- length `room`.
-use Rattle.std.specs.Prelude.{ℕ, suc, ◌≤◌, ◌<◌, ◌≡◌, ◌≢◌, List, [], ◌∷◌, ◌++◌, ℤ, length, take, drop}
+use Rattle.outline.specs.declared.Refusal.{Refusal}
+use Rattle.outline.specs.declared.Fault.TheVariants.{TooFew, NoSuchCorner}
+use Rattle.outline.specs.Refusal.{condition}
+use Rattle.std.specs.Prelude.{ℕ, suc, ◌≤◌, ◌<◌, ◌≡◌, ◌≢◌, List, [], ◌∷◌, ◌++◌, ℤ, length, take, drop, None, Result, ⊤}
 use Rattle.plane.specs.declared.Corner.{Corner}
 use Rattle.plane.specs.Vector.{coordinates}
-use Rattle.outline.specs.declared.RefusedSide.TheVariants.{NoSide}
-use Rattle.outline.specs.declared.Verdict.{Verdict}
 use Rattle.outline.specs.Conditions.{reading_conditions, AcceptedList}
 use Rattle.outline.specs.Corners.{corners}
 use Rattle.outline.specs.Refusal.{Condition, without_place}
@@ -16,7 +17,7 @@ without k cs = take k cs ++ drop (suc k) cs
 
 -- 8, no corner has that number
 abbrev pub no_such_corner : List Corner → ℕ → Condition
-no_such_corner cs k = record { number = 8; side = NoSide; applies = without_place (length cs ≤ k) }
+no_such_corner cs k = condition NoSuchCorner None (without_place (length cs ≤ k))
 
 -- the count of an outline that no corner can be removed from
 abbrev pub smallest : ℕ
@@ -24,7 +25,7 @@ smallest = 3
 
 -- 2, the outline has just 3 corners
 abbrev pub just_three : List Corner → Condition
-just_three cs = record { number = 2; side = NoSide; applies = without_place (length cs ≡ smallest) }
+just_three cs = condition TooFew None (without_place (length cs ≡ smallest))
 
 -- 8, 2 and 9
 abbrev pub own_conditions : List Corner → ℕ → ℕ → List Condition
@@ -32,7 +33,7 @@ own_conditions cs k room = no_such_corner cs k ∷ just_three cs ∷ wrong_lengt
 
 -- rule 2.7: 1 to 6 of the list s, read strictly, then 8, 2 and 9
 abbrev pub removal_conditions : List ℤ → ℕ → ℕ → List Condition
-removal_conditions s k room = reading_conditions NoSide s ++ own_conditions (corners s) k room
+removal_conditions s k room = reading_conditions None s ++ own_conditions (corners s) k room
 
 -- what a removal asks: a list that is accepted strictly, a corner with that number, not just 3 corners, and a list to
 -- write exactly as long as what remains. `removal-taken` in `proofs/Removal.antt` shows that this is where no condition applies
@@ -42,7 +43,7 @@ pub record Permitted (s : List ℤ) (k room : ℕ) : Type 0 where
   pub more : length (corners s) ≢ smallest
   pub long : room ≡ length (coordinates (without k (corners s)))
 
--- what the call gives, and what the list to write holds then, which held `out`: a refusal, and what it held; or Taken,
+-- what the call gives, and what the list to write holds then, which held `out`: a refusal, and what it held; or Ok,
 -- and the other corners in their order
-abbrev pub IsRemoval : List ℤ → ℕ → List ℤ → Verdict → List ℤ → Type 0
+abbrev pub IsRemoval : List ℤ → ℕ → List ℤ → Result ⊤ Refusal → List ℤ → Type 0
 IsRemoval s k out = IsEdit (removal_conditions s k (length out)) (Permitted s k (length out)) (without k (corners s)) out

@@ -3,6 +3,3 @@
 
 pub mod insertion;
 pub mod removal;
-
-// The number of the refusal of a corner number.
-const NO_SUCH_CORNER: u32 = 8;

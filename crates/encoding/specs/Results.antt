@@ -1,17 +1,16 @@
 -- Rules 9.4 to 9.6, 9.10 and 9.13: the numbers that a result list holds after a call, place by place.
-use Rattle.std.specs.Prelude.{ℕ, List, [], ◌∷◌, ◌++◌, ℤ, pos, negsuc, replicate}
+use Rattle.std.specs.Prelude.{ℕ, List, [], ◌∷◌, ◌++◌, ℤ, pos, negsuc, replicate, Option, None, Some}
 use Rattle.nearest.specs.declared.Feature.{Feature}
 use Rattle.nearest.specs.declared.Feature.TheVariants.{Within, Corner, Edge}
 use Rattle.nearest.specs.declared.NearestPoint.{NearestPoint}
 use Rattle.outline.specs.declared.Side.{Side}
 use Rattle.outline.specs.declared.Side.TheVariants.{A, B}
 use Rattle.hausdorff.specs.declared.CornerGap.{CornerGap}
-use Rattle.hausdorff.specs.declared.WorstSoFar.{WorstSoFar}
-use Rattle.hausdorff.specs.declared.WorstSoFar.TheVariants.{None, Worst}
 use Rattle.hausdorff.specs.declared.Spent.{Spent}
 use Rattle.hausdorff.specs.declared.Done.{Done}
 use Rattle.hausdorff.specs.declared.Report.{Report}
 use Rattle.hausdorff.specs.CornerGap.{nearest_of}
+use Rattle.hausdorff.specs.Sides.{at_side}
 
 -- rule 9.6: -1 stands where a place does not apply
 abbrev pub absent : ℤ
@@ -51,18 +50,18 @@ abbrev pub of_corner : CornerGap → List ℤ
 of_corner w = side_code w.side ∷ pos w.corner ∷ of_nearest (nearest_of w)
 
 -- of the worst so far. Where there is none, the side is 0 and nothing else applies
-abbrev pub of_worst : WorstSoFar → List ℤ
+abbrev pub of_worst : Option CornerGap → List ℤ
 of_worst None = pos 0 ∷ replicate 8 absent
-of_worst (Worst w) = of_corner w
+of_worst (Some w) = of_corner w
 
 -- of both outlines together: kind, steps made, support corners of A and B, the worst so far, clearance
-abbrev pub row : ℤ → ℤ → ℤ → ℤ → WorstSoFar → ℤ → List ℤ
+abbrev pub row : ℤ → ℤ → ℤ → ℤ → Option CornerGap → ℤ → List ℤ
 row kind steps support_a support_b worst clearance =
     kind ∷ steps ∷ support_a ∷ support_b ∷ of_worst worst ++ (clearance ∷ [])
 
 -- of a done report: kind 0, no support corners, and the answer in the places of the worst so far
 abbrev pub of_done : Done → List ℤ
-of_done d = row (pos 0) (pos d.steps) absent absent (Worst d.answer) (pos d.clearance)
+of_done d = row (pos 0) (pos d.steps) absent absent (Some d.answer) (pos d.clearance)
 
 -- of a spent report: kind 1, no clearance
 abbrev pub of_spent : Spent → List ℤ
@@ -74,11 +73,9 @@ of_overall (Report.Spent p) = of_spent p
 of_overall (Report.Done d) = of_done d
 
 -- what is reported of a side: its answer where the report is done, and else its worst so far or none
-abbrev pub reported_of : Side → Report → WorstSoFar
-reported_of A (Report.Spent p) = p.sides.a
-reported_of B (Report.Spent p) = p.sides.b
-reported_of A (Report.Done d) = Worst d.sides.a
-reported_of B (Report.Done d) = Worst d.sides.b
+abbrev pub reported_of : Side → Report → Option CornerGap
+reported_of s (Report.Spent p) = at_side p.sides s
+reported_of s (Report.Done d) = Some (at_side d.sides s)
 
 -- of that
 abbrev pub of_side : Side → Report → List ℤ

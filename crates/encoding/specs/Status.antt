@@ -1,18 +1,18 @@
 -- Rules 9.2 and 9.3: the status that every call returns.
-use Rattle.std.specs.Prelude.{ℕ}
+use Rattle.outline.specs.Fault.{number}
+use Rattle.outline.specs.declared.Side.{Side}
+use Rattle.std.specs.Prelude.{ℕ, Option, Some, None}
 use Rattle.outline.specs.declared.Place.{Place}
 use Rattle.outline.specs.declared.Place.TheVariants.{Nowhere, At, EdgeAndCorner}
 use Rattle.outline.specs.declared.Refusal.{Refusal}
-use Rattle.outline.specs.declared.RefusedSide.{RefusedSide}
-use Rattle.outline.specs.declared.RefusedSide.TheVariants.{NoSide, Of}
 use Rattle.outline.specs.declared.Side.TheVariants.{A, B}
 use Rattle.encoding.specs.declared.status.Status.{Status}
 
 -- the side of a refusal: 0 for none, 1 for A, 2 for B
-abbrev pub refused_side_code : RefusedSide → ℕ
-refused_side_code NoSide = 0
-refused_side_code (Of A) = 1
-refused_side_code (Of B) = 2
+abbrev pub refused_side_code : Option Side → ℕ
+refused_side_code None = 0
+refused_side_code (Some A) = 1
+refused_side_code (Some B) = 2
 
 -- how many numbers the place of a refusal has
 abbrev pub place_count : Place → ℕ
@@ -47,7 +47,7 @@ wrong_result_length = plain 100
 -- the call refused: the code is the number of the refusal
 abbrev pub refused_status : Refusal → Status
 refused_status r = record {
-  code = r.number;
+  code = number r.fault;
   side = refused_side_code r.side;
   places = place_count r.place;
   first = first_place r.place;

@@ -6,7 +6,7 @@ ghost use Rattle.hausdorff.specs.declared.Report.TheVariants as Report;
 ghost use Rattle.hausdorff.specs.code.Sizes.{FitsI64, FeatureFits, NearestFits, CornerFits, WorstFits};
 ghost use Rattle.hausdorff.specs.code.Sizes.{DoneFits, SpentFits, ReportFits};
 
-use hausdorff::{CornerGap, Done, Report, Spent, WorstSoFar};
+use hausdorff::{CornerGap, Done, Report, Spent};
 use nearest::{Feature, NearestPoint};
 use outline::Side;
 
@@ -68,15 +68,15 @@ fn number_of(feature: Feature) -> i64
     }
 }
 
-// The numbers of a nearest point.
+// The numbers of a nearest point. It asks that they fit an `i64`, so it and those below are no `From`, which takes any
+// value.
 pub fn of_nearest(a: NearestPoint) -> [i64; NEAREST_LENGTH]
     requires { NearestFits a }
     ensures { result ≡ of_nearest a }
 {
-    let feature = a.feature;
     [
-        kind_of(feature),
-        number_of(feature),
+        kind_of(a.feature),
+        number_of(a.feature),
         signed(a.gap.upper),
         signed(a.gap.lower),
         a.point.x,
@@ -100,40 +100,28 @@ fn of_corner(w: CornerGap) -> [i64; CORNER_LENGTH]
     requires { CornerFits w }
     ensures { result ≡ of_corner w }
 {
-    let side = w.side;
-    let feature = w.feature;
-    let gap = w.gap;
-    let point = w.point;
-    let n = of_nearest(NearestPoint {
-        feature,
-        gap,
-        point,
-    });
-    [
-        side_code(side),
-        signed(w.corner as u64),
-        n[0],
-        n[1],
-        n[2],
-        n[3],
-        n[4],
-        n[5],
-        n[6],
-    ]
+    let mut numbers = [side_code(w.side); CORNER_LENGTH];
+    numbers[1] = signed(w.corner as u64);
+    numbers[2..].copy_from_slice(&of_nearest(NearestPoint {
+        feature: w.feature,
+        gap: w.gap,
+        point: w.point,
+    }));
+    numbers
 }
 
 // The numbers of the worst so far. Where there is none yet its side is 0.
-fn of_worst(worst: WorstSoFar) -> [i64; CORNER_LENGTH]
+fn of_worst(worst: Option<CornerGap>) -> [i64; CORNER_LENGTH]
     requires { WorstFits worst }
     ensures { result ≡ of_worst worst }
 {
     match worst {
-        WorstSoFar::None => {
+        None => {
             let mut none = [ABSENT; CORNER_LENGTH];
             none[0] = 0;
             none
         }
-        WorstSoFar::Worst(w) => of_corner(w),
+        Some(w) => of_corner(w),
     }
 }
 
@@ -143,17 +131,16 @@ fn row(
     steps: i64,
     support_a: i64,
     support_b: i64,
-    worst: WorstSoFar,
+    worst: Option<CornerGap>,
     clearance: i64,
 ) -> [i64; OVERALL_LENGTH]
     requires { WorstFits worst }
     ensures { result ≡ row kind steps support_a support_b worst clearance }
 {
-    let w = of_worst(worst);
-    [
-        kind, steps, support_a, support_b, w[0], w[1], w[2], w[3], w[4], w[5], w[6], w[7], w[8],
-        clearance,
-    ]
+    let mut numbers = [clearance; OVERALL_LENGTH];
+    numbers[..4].copy_from_slice(&[kind, steps, support_a, support_b]);
+    numbers[4..13].copy_from_slice(&of_worst(worst));
+    numbers
 }
 
 // The numbers of a comparison that is done.
@@ -161,13 +148,12 @@ fn of_done(d: Done) -> [i64; OVERALL_LENGTH]
     requires { DoneFits d }
     ensures { result ≡ of_done d }
 {
-    let answer = d.answer;
     row(
         DONE,
         signed(d.steps as u64),
         ABSENT,
         ABSENT,
-        WorstSoFar::Worst(answer),
+        Some(d.answer),
         signed(d.clearance),
     )
 }
@@ -177,15 +163,12 @@ fn of_spent(p: Spent) -> [i64; OVERALL_LENGTH]
     requires { SpentFits p }
     ensures { result ≡ of_spent p }
 {
-    let worst = p.worst;
-    let support_a = signed(p.support.a as u64);
-    let support_b = signed(p.support.b as u64);
     row(
         SPENT,
         signed(p.steps as u64),
-        support_a,
-        support_b,
-        worst,
+        signed(p.support.a as u64),
+        signed(p.support.b as u64),
+        p.worst,
         ABSENT,
     )
 }
@@ -201,41 +184,13 @@ pub fn of_overall(report: Report) -> [i64; OVERALL_LENGTH]
     }
 }
 
-// What a spent report has of a side.
-fn reported_when_spent(side: Side, p: Spent) -> WorstSoFar
-    ensures { result ≡ reported_of side (Report.Spent p) }
-{
-    let sides = p.sides;
-    match side {
-        Side::A => sides.a,
-        Side::B => sides.b,
-    }
-}
-
-// What a done report has of a side.
-fn reported_when_done(side: Side, d: Done) -> WorstSoFar
-    ensures { result ≡ reported_of side (Report.Done d) }
-{
-    let sides = d.sides;
-    match side {
-        Side::A => {
-            let a = sides.a;
-            WorstSoFar::Worst(a)
-        }
-        Side::B => {
-            let b = sides.b;
-            WorstSoFar::Worst(b)
-        }
-    }
-}
-
 // What a report has of a side.
-fn reported_of(side: Side, report: Report) -> WorstSoFar
+fn reported_of(side: Side, report: Report) -> Option<CornerGap>
     ensures { result ≡ reported_of side report }
 {
     match report {
-        Report::Spent(p) => reported_when_spent(side, p),
-        Report::Done(d) => reported_when_done(side, d),
+        Report::Spent(spent) => spent.sides.at_side(side),
+        Report::Done(done) => Some(done.sides.at_side(side)),
     }
 }
 

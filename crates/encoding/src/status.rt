@@ -1,10 +1,8 @@
 // The status that every call returns: a refusal as plain numbers. `specs/Status.antt` sets out the numbers of each
 // case.
 ghost use Rattle.std.specs.Prelude.{◌≡◌};
-ghost use Rattle.encoding.specs.Status.{refused_side_code, place_count, first_place, second_place, refused_status};
-ghost use Rattle.encoding.specs.Status.{plain, answered, wrong_result_length};
 
-use outline::{Place, Refusal, RefusedSide, Side};
+use outline::{Place, Refusal, Side};
 
 // Whether a call answered and, if not, why: the code, the side of a refusal, how many place numbers it has, and these.
 #[repr(C)]
@@ -23,90 +21,60 @@ const ANSWERED: u32 = 0;
 // The code of a call whose result list has the wrong length: no refusal has this number.
 const WRONG_RESULT_LENGTH: u32 = 100;
 
-// A status with a code alone.
-fn plain(code: u32) -> Status
-    ensures { result ≡ plain code }
-{
-    Status {
-        code,
-        side: 0,
-        places: 0,
-        first: 0,
-        second: 0,
+impl Status {
+    ghost use Rattle.encoding.specs.Status.{plain, answered, wrong_result_length};
+
+    // A status with a code alone.
+    fn plain(code: u32) -> Status
+        ensures { result ≡ plain code }
+    {
+        Status {
+            code,
+            side: 0,
+            places: 0,
+            first: 0,
+            second: 0,
+        }
     }
-}
 
-// The call answered.
-pub fn answered() -> Status
-    ensures { result ≡ answered }
-{
-    plain(ANSWERED)
-}
-
-// The result list has the wrong length.
-pub fn wrong_result_length() -> Status
-    ensures { result ≡ wrong_result_length }
-{
-    plain(WRONG_RESULT_LENGTH)
-}
-
-// The number of a refusal's side.
-fn refused_side_code(side: RefusedSide) -> u32
-    ensures { result ≡ refused_side_code side }
-{
-    match side {
-        RefusedSide::NoSide => 0,
-        RefusedSide::Of(side) => match side {
-            Side::A => 1,
-            Side::B => 2,
-        },
+    // The call answered.
+    pub fn answered() -> Status
+        ensures { result ≡ answered }
+    {
+        Status::plain(ANSWERED)
     }
-}
 
-// How many place numbers a refusal has.
-fn place_count(place: Place) -> u32
-    ensures { result ≡ place_count place }
-{
-    match place {
-        Place::Nowhere => 0,
-        Place::At(_) => 1,
-        Place::EdgeAndCorner(_, _) => 2,
-    }
-}
-
-// The first place number, or 0.
-fn first_place(place: Place) -> usize
-    ensures { result ≡ first_place place }
-{
-    match place {
-        Place::Nowhere => 0,
-        Place::At(i) => i,
-        Place::EdgeAndCorner(e, _) => e,
-    }
-}
-
-// The second place number, or 0.
-fn second_place(place: Place) -> usize
-    ensures { result ≡ second_place place }
-{
-    match place {
-        Place::Nowhere => 0,
-        Place::At(_) => 0,
-        Place::EdgeAndCorner(_, c) => c,
+    // The result list has the wrong length.
+    pub fn wrong_result_length() -> Status
+        ensures { result ≡ wrong_result_length }
+    {
+        Status::plain(WRONG_RESULT_LENGTH)
     }
 }
 
 // The call refused.
-pub fn refused(refusal: Refusal) -> Status
-    ensures { result ≡ refused_status refusal }
-{
-    let side = refusal.side;
-    let place = refusal.place;
-    Status {
-        code: refusal.number,
-        side: refused_side_code(side),
-        places: place_count(place),
-        first: first_place(place),
-        second: second_place(place),
+impl From<Refusal> for Status {
+    ghost use Rattle.encoding.specs.Status.{refused_status};
+
+    ghost from_gives = { λ refusal status. status ≡ refused_status refusal };
+
+    fn from(refusal: Refusal) -> Status {
+        let side = match refusal.side {
+            None => 0,
+            Some(Side::A) => 1,
+            Some(Side::B) => 2,
+        };
+        let (places, first, second) = match refusal.place {
+            Place::Nowhere => (0, 0, 0),
+            Place::At(i) => (1, i, 0),
+            Place::EdgeAndCorner(e, c) => (2, e, c),
+        };
+        Status {
+            code: u32::from(refusal.fault),
+            side,
+            places,
+            first,
+            second,
+        }
     }
 }

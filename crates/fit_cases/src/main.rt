@@ -2,48 +2,39 @@
 // ended by byte 255. `tests/cases.py` writes them and, by another way, what is to be written.
 #![tactic(auto)]
 
-ghost use Rattle.std.specs.Prelude.{◌≡◌, ◌≤◌, length};
+ghost use Rattle.std.specs.Prelude.{◌<◌, length};
 
 use std::io;
 
 const END: u8 = 255;
 
+// The longest input, in bytes.
 const ROOM: usize = 262144;
 
-// Where the case that starts at a place ends.
-fn case_end(s: &[u8], from: usize) -> usize
-    requires { from ≤ length s.now }
-    ensures { (from ≤ result) × (result ≤ length s.now) }
+// The first case, and what stands after its end byte.
+fn first_case(s: &[u8]) -> (&[u8], &[u8])
+    requires { 0 < length s.now }
+    ensures { length result.1.now < length s.now }
 {
-    let mut i = from;
-    while i < s.len() {
-        if s[i] == END {
-            return i;
-        }
-        i += 1;
+    match s.iter().position(|b| *b == END) {
+        Some(end) => (&s[..end], &s[end + 1..]),
+        None => (s, &[]),
     }
-    i
 }
 
+// `for case in s.split_inclusive(..)` gets no proof here: the check refuses what it makes of the loop under `impl Print`.
 fn respond_each(rt: &impl Print, s: &[u8]) -> io::Result<()> {
-    let mut from = 0;
-    while from < s.len() {
-        let end = case_end(s, from);
-        print::write(rt, fit_text::respond(&s[from..end]))?;
-        from = end + 1;
+    let mut rest = s;
+    while !rest.is_empty() {
+        let (case, after) = first_case(rest);
+        print::write(rt, fit_text::respond(case))?;
+        rest = after;
     }
     Ok(())
 }
 
-// Room for the input. The contract has the length alone, not the list of all the zeros.
-fn room() -> [u8; ROOM]
-    ensures { 262144 ≡ length result }
-{
-    [0; ROOM]
-}
-
 fn main(rt: HostRuntime) -> io::Result<()> {
-    let mut text = room();
+    let mut text = [0; ROOM];
     let count = standard_input::read_full(&rt, &mut text)?;
     respond_each(&rt, &text[..count])
 }

@@ -10,7 +10,7 @@ use std::io;
 // `fit_text/proofs/ResponseLaws.antt`).
 const ROOM: usize = fit_text::MOST_BYTES + 1;
 
-// The contract has the length alone, not the list of all the zeros.
+// Its contract holds the room to the limit, and has the length alone, not the list of all the zeros.
 fn room() -> [u8; ROOM]
     ensures { suc most_bytes ≡ length result }
 {

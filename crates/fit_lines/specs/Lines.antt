@@ -2,15 +2,13 @@
 -- `decimal` has all digits of every number here: the gap's, the point's lower number, the corner's, the feature's and
 -- the clearance fit 63 bits (`report-fits` in `hausdorff/proofs/Fitting.antt`), and X, Y, the steps and a refusal's
 -- numbers are machine numbers in the code, whose result equals the definition's.
-use Rattle.std.specs.Prelude.{ℕ, List, [], ◌++◌}
+use Rattle.std.specs.Prelude.{ℕ, List, [], ◌++◌, Result, Ok, Err}
 use Rattle.integers.specs.declared.fraction.Fraction.{Fraction}
 use Rattle.text.specs.Ascii.{ascii}
 use Rattle.text.specs.Decimal.{decimal}
 use Rattle.outline.specs.declared.Refusal.{Refusal}
 use Rattle.hausdorff.specs.declared.CornerGap.{CornerGap}
 use Rattle.hausdorff.specs.declared.Done.{Done}
-use Rattle.hausdorff.specs.declared.Comparison.{Comparison}
-use Rattle.hausdorff.specs.declared.Comparison.TheVariants.{Refused, Reported}
 use Rattle.hausdorff.specs.declared.Report.{Report}
 use Rattle.answer_text.specs.Parts.{corner_text, feature_text, fraction_text, point_text, refusal_text}
 
@@ -54,6 +52,6 @@ report_text (Report.Spent p) = []
 report_text (Report.Done d) = done_text d
 
 -- what comparing gives: a refusal, or what is reported
-abbrev pub comparison_text : Comparison → List ℕ
-comparison_text (Refused r) = refusal_line r
-comparison_text (Reported q) = report_text q
+abbrev pub comparison_text : Result Report Refusal → List ℕ
+comparison_text (Err r) = refusal_line r
+comparison_text (Ok q) = report_text q

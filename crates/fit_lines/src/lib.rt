@@ -6,8 +6,9 @@ ghost use Rattle.text.specs.code.Output.{appended};
 ghost use Rattle.fit_lines.specs.Lines.{gap_line, number_line, from_line, to_line};
 ghost use Rattle.fit_lines.specs.Lines.{side_lines, done_text, report_text, comparison_text};
 
-use hausdorff::{Comparison, CornerGap, Done, Report};
+use hausdorff::{CornerGap, Done, Report};
 use integers::fraction::Fraction;
+use outline::Refusal;
 use text::output::Text;
 
 fn gap_line(t: Text, gap: Fraction) -> Text
@@ -27,18 +28,15 @@ fn number_line(t: Text, word: &[u8], n: u64) -> Text
 fn from_line(t: Text, found: CornerGap) -> Text
     ensures { result ≡ appended t (from_line found) }
 {
-    let side = found.side;
-    answer_text::corner(t.bytes(b"from "), side, found.corner).bytes(b"\n")
+    answer_text::corner(t.bytes(b"from "), found.side, found.corner).bytes(b"\n")
 }
 
 // What is nearest to it: the feature and the point.
 fn to_line(t: Text, found: CornerGap) -> Text
     ensures { result ≡ appended t (to_line found) }
 {
-    let feature = found.feature;
-    let point = found.point;
-    let t = answer_text::feature(t.bytes(b"to "), feature).bytes(b" at ");
-    answer_text::point(t, point).bytes(b"\n")
+    let t = answer_text::feature(t.bytes(b"to "), found.feature).bytes(b" at ");
+    answer_text::point(t, found.point).bytes(b"\n")
 }
 
 // The answer of a side.
@@ -51,16 +49,9 @@ fn side_lines(t: Text, found: CornerGap) -> Text
 fn done(t: Text, done: Done) -> Text
     ensures { result ≡ appended t (done_text done) }
 {
-    let gap = done.answer.gap;
-    let sides = done.sides;
-    let a = sides.a;
-    let b = sides.b;
-    let t = number_line(gap_line(t, gap), b"mm ", done.clearance);
-    number_line(
-        side_lines(side_lines(t, a), b),
-        b"steps ",
-        done.steps as u64,
-    )
+    let t = number_line(gap_line(t, done.answer.gap), b"mm ", done.clearance);
+    let t = side_lines(side_lines(t, done.sides.a), done.sides.b);
+    number_line(t, b"steps ", done.steps as u64)
 }
 
 // The seven lines of a comparison that is done. For one that is spent there are none.
@@ -74,11 +65,11 @@ fn report(t: Text, report: Report) -> Text
 }
 
 // A refusal in one line, or the lines of what is reported.
-pub fn comparison(t: Text, comparison: Comparison) -> Text
+pub fn comparison(t: Text, comparison: Result<Report, Refusal>) -> Text
     ensures { result ≡ appended t (comparison_text comparison) }
 {
     match comparison {
-        Comparison::Refused(r) => answer_text::refusal(t, r).bytes(b"\n"),
-        Comparison::Reported(r) => report(t, r),
+        Err(r) => answer_text::refusal(t, r).bytes(b"\n"),
+        Ok(r) => report(t, r),
     }
 }

@@ -12,34 +12,35 @@ use lib.IntN.{ℤ}
 use lib.ListN.{length, take}
 use lib.Seq.{take_all, length-take-le}
 use borrow.Author.Tests.{lt-ltb, ltb-true, ltb-false}
+use Rattle.std.specs.Prelude.{Result, Ok, Err}
+use Rattle.hausdorff.specs.declared.Report.{Report}
+use Rattle.outline.specs.declared.Refusal.{Refusal}
 use Rattle.text.specs.Output.{room}
 use Rattle.text.specs.Words.{words}
 use Rattle.hausdorff.specs.declared.Spent.{Spent}
 use Rattle.hausdorff.specs.declared.Report.TheVariants as Report
-use Rattle.hausdorff.specs.declared.Comparison.{Comparison}
-use Rattle.hausdorff.specs.declared.Comparison.TheVariants.{Refused, Reported}
 use Rattle.hausdorff.specs.code.Call.{comparison}
 use Rattle.hausdorff.proofs.CallLaws.{is-comparison, reported-means, spent-report-below}
 use Rattle.fit_lines.specs.Lines.{comparison_text}
 use Rattle.fit_lines.proofs.LengthLaws.{refusal-line-fits, done-fits}
-use Rattle.fit_text.specs.declared.parsing.Outcome.TheVariants as Outcome
+use Rattle.std.specs.Prelude.{None}
 use Rattle.fit_text.specs.Input.{Given, Numbers, TooMany, Unreadable}
 use Rattle.fit_text.specs.Input.{outline, allowance, too_many, with_b, with_a, outcome}
 use Rattle.fit_text.specs.Response.{outcome_text, most_bytes, response, LaidDown, unreadable, refused, done}
 
 -- an accepted pair has at most 512 edges, so the law of comparing says that it is done
-never-spent : (s t : List ℤ) (p : Spent) → ¬ (comparison s t allowance ≡ Reported (Report.Spent p))
+never-spent : (s t : List ℤ) (p : Spent) → ¬ (comparison s t allowance ≡ Ok (Report.Spent p))
 never-spent s t p is =
     let reports = rw is at (is-comparison s t allowance) in
     let tells = reported-means s t allowance (Report.Spent p) reports in
     omega (arith, spent-report-below s t allowance p reports, tells.accepted_a.at_most, tells.accepted_b.at_most)
 
 -- what a comparison that is not spent writes
-comparison-laid-down : (c : Comparison) → ((p : Spent) → ¬ (c ≡ Reported (Report.Spent p)))
+comparison-laid-down : (c : Result Report Refusal) → ((p : Spent) → ¬ (c ≡ Ok (Report.Spent p)))
     → LaidDown (comparison_text c)
-comparison-laid-down (Refused r) not-spent = refused r refl
-comparison-laid-down (Reported (Report.Spent p)) not-spent = absurd (not-spent p refl)
-comparison-laid-down (Reported (Report.Done d)) not-spent = done d refl
+comparison-laid-down (Err r) not-spent = refused r refl
+comparison-laid-down (Ok (Report.Spent p)) not-spent = absurd (not-spent p refl)
+comparison-laid-down (Ok (Report.Done d)) not-spent = done d refl
 
 b-laid-down : (s : List ℤ) (g : Given) → LaidDown (outcome_text (with_b s g))
 b-laid-down s (Numbers t []) = comparison-laid-down (comparison s t allowance) (never-spent s t)
@@ -55,7 +56,7 @@ a-laid-down Unreadable = unreadable refl
 pub response-laid-down : (s : List ℕ) → LaidDown (response s)
 response-laid-down s = by_length (ltb most_bytes (length s))
   where
-    by_length : (t : Bool) → LaidDown (outcome_text (cond t Outcome.Unreadable (outcome s)))
+    by_length : (t : Bool) → LaidDown (outcome_text (cond t None (outcome s)))
     by_length true = unreadable refl
     by_length false = a-laid-down (outline (words s))
 

@@ -1,12 +1,12 @@
 -- Rules 8.4 to 8.6: what the fit program reads.
-use Rattle.std.specs.Prelude.{ℕ, zero, suc, ◌+◌, ◌*◌, cond, List, [], ◌∷◌, ltb, ℤ, pos, negsuc, replicate, drop}
-use Rattle.text.specs.declared.input.Parsed.{Parsed}
-use Rattle.text.specs.declared.input.Parsed.TheVariants.{Number, Invalid}
+use Rattle.outline.specs.declared.Refusal.{Refusal}
+use Rattle.hausdorff.specs.declared.Report.{Report}
+use Rattle.std.specs.Prelude.{ℕ, zero, suc, ◌+◌, ◌*◌, cond, List, [], ◌∷◌, ltb, ℤ, pos, negsuc, replicate, drop, Result}
+use Rattle.std.specs.Prelude.{Option, Some, None}
 use Rattle.text.specs.Number.{first_number}
 use Rattle.text.specs.Words.{words}
 use Rattle.outline.specs.Corners.{most}
 use Rattle.hausdorff.specs.code.Call.{comparison}
-use Rattle.fit_text.specs.declared.parsing.Outcome.{Outcome}
 
 -- what words give for one outline
 pub data Given : Type 0 where
@@ -24,9 +24,9 @@ put z TooMany = TooMany
 put z Unreadable = Unreadable
 
 -- what a word gives, put before what the words after it give; a word that is missing or no number cannot be read
-abbrev pub before : Parsed → Given → Given
-before (Number z) g = put z g
-before Invalid g = Unreadable
+abbrev pub before : Option ℤ → Given → Given
+before (Some z) g = put z g
+before None g = Unreadable
 
 -- what words give where so many numbers are asked for, one a word
 unfoldable pub numbers : ℕ → List (List ℕ) → Given
@@ -35,10 +35,10 @@ numbers (suc n) ws = before (first_number ws) (numbers n (drop 1 ws))
 
 -- the numbers of an outline, by what the word of its count gives. A count above 256 ends the reading; one that is
 -- missing or negative cannot be read
-abbrev pub counted : Parsed → List (List ℕ) → Given
-counted (Number (pos n)) ws = let read = numbers (2 * n) ws in cond (ltb most n) TooMany read
-counted (Number (negsuc n)) ws = Unreadable
-counted Invalid ws = Unreadable
+abbrev pub counted : Option ℤ → List (List ℕ) → Given
+counted (Some (pos n)) ws = let read = numbers (2 * n) ws in cond (ltb most n) TooMany read
+counted (Some (negsuc n)) ws = Unreadable
+counted None ws = Unreadable
 
 -- rule 8.4: a corner count, and then x and y of so many corners
 unfoldable pub outline : List (List ℕ) → Given
@@ -54,18 +54,18 @@ abbrev pub too_many : List ℤ
 too_many = replicate (2 * most + 2) (pos 0)
 
 -- the outcome where A's numbers are read, by what is given for B. Nothing may stand after the numbers of B
-abbrev pub with_b : List ℤ → Given → Outcome
-with_b s (Numbers t []) = Outcome.Compared (comparison s t allowance)
-with_b s (Numbers t (w ∷ ws)) = Outcome.Unreadable
-with_b s TooMany = Outcome.Compared (comparison s too_many allowance)
-with_b s Unreadable = Outcome.Unreadable
+abbrev pub with_b : List ℤ → Given → Option (Result Report Refusal)
+with_b s (Numbers t []) = Some (comparison s t allowance)
+with_b s (Numbers t (w ∷ ws)) = None
+with_b s TooMany = Some (comparison s too_many allowance)
+with_b s Unreadable = None
 
 -- the outcome, by what is given for A. Where its count is above 256, B is not read
-abbrev pub with_a : Given → Outcome
+abbrev pub with_a : Given → Option (Result Report Refusal)
 with_a (Numbers s ws) = with_b s (outline ws)
-with_a TooMany = Outcome.Compared (comparison too_many [] allowance)
-with_a Unreadable = Outcome.Unreadable
+with_a TooMany = Some (comparison too_many [] allowance)
+with_a Unreadable = None
 
 -- what a text gives: a comparison, or it cannot be read
-abbrev pub outcome : List ℕ → Outcome
+abbrev pub outcome : List ℕ → Option (Result Report Refusal)
 outcome s = with_a (outline (words s))

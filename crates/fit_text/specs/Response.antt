@@ -1,25 +1,24 @@
 -- What the fit program writes.
-use Rattle.std.specs.Prelude.{ℕ, cond, List, ◌≡◌, ltb, length}
+use Rattle.hausdorff.specs.declared.Report.{Report}
+use Rattle.std.specs.Prelude.{ℕ, cond, List, Option, Some, None, ◌≡◌, ltb, length, Result}
 use Rattle.text.specs.Ascii.{ascii}
 use Rattle.outline.specs.declared.Refusal.{Refusal}
 use Rattle.hausdorff.specs.declared.Done.{Done}
 use Rattle.fit_lines.specs.Lines.{refusal_line, done_text, comparison_text}
-use Rattle.fit_text.specs.declared.parsing.Outcome.{Outcome}
-use Rattle.fit_text.specs.declared.parsing.Outcome.TheVariants.{Compared, Unreadable}
 use Rattle.fit_text.specs.Input.{outcome}
 
 -- the lines of a comparison, or `unreadable`
-abbrev pub outcome_text : Outcome → List ℕ
-outcome_text (Compared c) = comparison_text c
-outcome_text Unreadable = ascii "unreadable\n"
+abbrev pub outcome_text : Option (Result Report Refusal) → List ℕ
+outcome_text (Some c) = comparison_text c
+outcome_text None = ascii "unreadable\n"
 
 -- rule 8.1: an input may have 16 KiB
 abbrev pub most_bytes : ℕ
 most_bytes = 16384
 
 -- what an input gives; with more bytes it is unreadable, before anything else is judged
-abbrev pub judged : List ℕ → Outcome
-judged s = let read = outcome s in cond (ltb most_bytes (length s)) Unreadable read
+abbrev pub judged : List ℕ → Option (Result Report Refusal)
+judged s = let read = outcome s in cond (ltb most_bytes (length s)) None read
 
 -- what the program writes for an input
 abbrev pub response : List ℕ → List ℕ

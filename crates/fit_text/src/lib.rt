@@ -8,7 +8,6 @@ ghost use Rattle.text.specs.Ascii.{ascii};
 ghost use Rattle.text.specs.Output.{text_of, room};
 ghost use Rattle.fit_text.specs.Response.{response};
 
-use parsing::Outcome;
 use text::output::Text;
 
 // The longest input that is not unreadable: 16 KiB.
@@ -30,7 +29,7 @@ pub fn respond(input: &[u8]) -> Text
         return unreadable();
     }
     match parsing::read(input) {
-        Outcome::Compared(comparison) => fit_lines::comparison(Text::empty(), comparison),
-        Outcome::Unreadable => unreadable(),
+        Some(comparison) => fit_lines::comparison(Text::empty(), comparison),
+        None => unreadable(),
     }
 }

@@ -14,6 +14,7 @@ use mathlib.Core.Logic.{◌↔◌, ◌⊎◌, inl, inr, ⊎_elim, ⊎_map}
 use native.Mathlib.Decide.{ℕ_discrete}
 use native.Mathlib.Omega.{arith}
 use lib.ListN.{length}
+use Rattle.std.specs.Prelude.{Option, None, Some}
 use Rattle.lists.specs.Fold.{fold}
 use Rattle.outline.specs.Corners.{corner}
 use Rattle.outline.proofs.OrientationLaws.{given-first, given_below, given-twice}
@@ -24,8 +25,6 @@ use Rattle.nearest.specs.Feature.{values, within_values}
 use Rattle.nearest.proofs.AnswerLaws.{within-iff, gap-zero-iff}
 use Rattle.nearest.proofs.SearchLaws.{search-nearest}
 use Rattle.hausdorff.specs.declared.CornerGap.{CornerGap}
-use Rattle.hausdorff.specs.declared.WorstSoFar.{WorstSoFar}
-use Rattle.hausdorff.specs.declared.WorstSoFar.TheVariants.{None, Worst}
 use Rattle.outline.specs.declared.Side.{Side}
 use Rattle.outline.specs.declared.Side.TheVariants.{A, B}
 use Rattle.hausdorff.specs.Pair.{Pair, Orientations, given, other, step_count}
@@ -73,7 +72,7 @@ module _ (pair : Pair) (os : Orientations) (polygons : Polygons pair) where
       ((within-iff (polygons (other s)) (corner (pair s) 0)).1 within)
 
   -- what the sweep finds for a side is its answer, and so is its corner 0 where that is none
-  side-answers-by : (s : Side) (x : WorstSoFar) → SideWorst pair os s x
+  side-answers-by : (s : Side) (x : Option CornerGap) → SideWorst pair os s x
       → IsSideAnswer pair os s (or_within s (corner (pair s) 0) x)
   side-answers-by s None within = rw (first-within s (within 0 (nonempty s))) at (leads-side s (λ j below. below)
       (leads-of pair os polygons s (λ j. j < length (pair s)) (corner_gap pair s 0) (nonempty s) (record {
@@ -84,7 +83,7 @@ module _ (pair : Pair) (os : Orientations) (polygons : Polygons pair) where
           first_of_equals = λ _. omega (arith, first-number s);
         };
       })))
-  side-answers-by s (Worst w) (best, outside) =
+  side-answers-by s (Some w) (best, outside) =
       leads-side s (λ j below. below) (leads-of pair os polygons s (λ j. j < length (pair s)) w best.holds best)
 
   pub side-answers : (s : Side) → IsSideAnswer pair os s (side_answer pair os s)
@@ -94,7 +93,7 @@ module _ (pair : Pair) (os : Orientations) (polygons : Polygons pair) where
   sweep-answers = sides-answer (side_answer pair os A) (side_answer pair os B) (side-answers A) (side-answers B)
 
   -- a corner outside has a gap above zero
-  outside_above : (s : Side) (w : CornerGap) → SideWorst pair os s (Worst w) → 0 < w.gap.upper
+  outside_above : (s : Side) (w : CornerGap) → SideWorst pair os s (Some w) → 0 < w.gap.upper
   outside_above s w (best, outside) = elim (ℕ_discrete w.gap.upper 0) [
     | yes e ↦ absurd (outside
         ((gap-zero-iff (polygons (other s)) (corner (pair s) w.corner)).0 (rw best.equal at e)))
@@ -102,13 +101,13 @@ module _ (pair : Pair) (os : Orientations) (polygons : Polygons pair) where
   ]
 
   -- by which sides show a corner that was counted
-  worse-overall : (a b : WorstSoFar) → SideWorst pair os A a → SideWorst pair os B b
+  worse-overall : (a b : Option CornerGap) → SideWorst pair os A a → SideWorst pair os B b
       → worse (or_within A (corner (pair A) 0) a) (or_within B (corner (pair B) 0) b)
       ≡ or_within A (corner (pair A) 0) (overall a b)
   worse-overall None None p q = refl
-  worse-overall None (Worst b) p q = worse-second _ b (λ not-greater. omega (arith, outside_above B b q))
-  worse-overall (Worst a) None p q = worse-first a _ (omega arith)
-  worse-overall (Worst a) (Worst b) p q = refl
+  worse-overall None (Some b) p q = worse-second _ b (λ not-greater. omega (arith, outside_above B b q))
+  worse-overall (Some a) None p q = worse-first a _ (omega arith)
+  worse-overall (Some a) (Some b) p q = refl
 
   pub answer-from-steps : answer pair os ≡ or_within A (corner (pair A) 0) (worst_so_far pair os (step_count pair))
   answer-from-steps = worse-overall (worst_after pair os (step_count pair) A) (worst_after pair os (step_count pair) B)

@@ -29,20 +29,19 @@ use mathlib.Core.List.{List}
 use native.Mathlib.Omega.{arith}
 use lib.IntN.{ℤ}
 use lib.ListN.{length}
+use Rattle.std.specs.Prelude.{Some, Result, Ok, Err}
 use Rattle.integers.specs.Fraction.{SameValue}
 use Rattle.integers.proofs.RootLaws.{ceiling-same}
 use Rattle.plane.specs.declared.Corner.{Corner}
 use Rattle.outline.specs.declared.Orientation.{Orientation}
 use Rattle.outline.specs.declared.Refusal.{Refusal}
-use Rattle.outline.specs.declared.RefusedSide.TheVariants.{Of}
 use Rattle.outline.specs.declared.Side.TheVariants.{A, B}
-use Rattle.outline.specs.declared.Verdict.{Verdict}
 use Rattle.outline.specs.Conditions.{either_conditions}
 use Rattle.outline.specs.Convex.{Accepted}
 use Rattle.outline.specs.Corners.{corners}
 use Rattle.outline.specs.Orientation.{AcceptedAs}
 use Rattle.outline.specs.code.Either.{orientation_of, held_corners, either_checks, check_either}
-use Rattle.outline.specs.code.Checks.{first}
+use Rattle.outline.specs.code.Checks.{Verdict, first}
 use Rattle.outline.specs.Refusal.{FirstFault}
 use Rattle.outline.proofs.EdgeLaws.{accepted-polygon}
 use Rattle.outline.proofs.EitherLaws.{accepted-held, accepted-orientation, either-decide, none-either}
@@ -53,9 +52,6 @@ use Rattle.outline.proofs.ConditionLaws.{decide-append, none-append, fault-appen
 use Rattle.hausdorff.specs.declared.Done.{Done}
 use Rattle.hausdorff.specs.declared.Spent.{Spent}
 use Rattle.hausdorff.specs.declared.Report.{Report}
-use Rattle.hausdorff.specs.declared.PairVerdict.{PairVerdict}
-use Rattle.hausdorff.specs.declared.Comparison.{Comparison}
-use Rattle.hausdorff.specs.declared.Comparison.TheVariants.{Refused, Reported}
 use Rattle.hausdorff.specs.Pair.{both, both_orientations}
 use Rattle.hausdorff.specs.Given.{given_done, given_report}
 use Rattle.hausdorff.specs.code.Pair.{AcceptedPair, Polygons}
@@ -74,27 +70,34 @@ both-accepted ps qs ok-a ok-b B = ok-b
 
 module _ (s t : List ℤ) where
   -- the verdict on a pair, by what the first check that refuses gives
-  pub verdict-refused : (v : Verdict) (r : Refusal) → (pair_verdict_for s t v ≡ PairVerdict.Refused r) ↔ (v ≡ Verdict.Refused r)
-  verdict-refused Verdict.Taken r = (λ e. cc, λ e. cc)
-  verdict-refused (Verdict.Refused q) r = (λ e. cc, λ e. cc)
+  pub verdict-refused : (v : Verdict) (r : Refusal) → (pair_verdict_for s t v ≡ Err r) ↔ (v ≡ Err r)
+  verdict-refused (Ok _) r = (λ e. cc, λ e. cc)
+  verdict-refused (Err q) r = (λ e. cc, λ e. cc)
 
-  verdict-taken : (v : Verdict) (o q : Orientation) → (pair_verdict_for s t v ≡ PairVerdict.Taken o q)
-      ↔ ((v ≡ Verdict.Taken) × (orientation_of (corners s) ≡ o) × (orientation_of (corners t) ≡ q))
-  verdict-taken Verdict.Taken o q = (λ e. (refl, cc, cc), λ (_, of_a, of_b). λ i. PairVerdict.Taken (of_a i) (of_b i))
-  verdict-taken (Verdict.Refused r) o q = (λ e. (cc, cc, cc), λ h. cc)
+  verdict-taken : (v : Verdict) (o q : Orientation) → (pair_verdict_for s t v ≡ Ok (o, q))
+      ↔ ((v ≡ Ok tt) × (orientation_of (corners s) ≡ o) × (orientation_of (corners t) ≡ q))
+  verdict-taken (Ok _) o q = (
+    λ e. (let both : (orientation_of (corners s), orientation_of (corners t)) ≡ (o, q) = cc in (
+      refl,
+      ap (λ (p : Orientation × Orientation). p.0) both,
+      ap (λ (p : Orientation × Orientation). p.1) both,
+    )),
+    λ (_, of_a, of_b). λ i. Ok (of_a i, of_b i),
+  )
+  verdict-taken (Err r) o q = (λ e. (cc, cc, cc), λ h. cc)
 
   -- and what the call gives, by the verdict
-  pub comparison_for-refused : (allowance : ℕ) (v : PairVerdict) (r : Refusal)
-      → (comparison_for s t allowance v ≡ Refused r) ↔ (v ≡ PairVerdict.Refused r)
-  comparison_for-refused allowance (PairVerdict.Taken o q) r = (λ e. cc, λ e. cc)
-  comparison_for-refused allowance (PairVerdict.Refused q) r = (λ e. cc, λ e. cc)
+  pub comparison_for-refused : (allowance : ℕ) (v : Result (Orientation × Orientation) Refusal) (r : Refusal)
+      → (comparison_for s t allowance v ≡ Err r) ↔ (v ≡ Err r)
+  comparison_for-refused allowance (Ok (o, q)) r = (λ e. cc, λ e. cc)
+  comparison_for-refused allowance (Err q) r = (λ e. cc, λ e. cc)
 
   decide : AllDecide (pair_checks s t) (pair_conditions s t)
   decide =
-      decide-append (either_checks (Of A) s) (either_checks (Of B) t) (either_conditions (Of A) s) (either_conditions (Of B) t)
-      (either-decide (Of A) s) (either-decide (Of B) t)
+      decide-append (either_checks (Some A) s) (either_checks (Some B) t) (either_conditions (Some A) s) (either_conditions (Some B) t)
+      (either-decide (Some A) s) (either-decide (Some B) t)
 
-  pub pair-refused : (r : Refusal) → (check_pair s t ≡ PairVerdict.Refused r) ↔ FirstFault (pair_conditions s t) r
+  pub pair-refused : (r : Refusal) → (check_pair s t ≡ Err r) ↔ FirstFault (pair_conditions s t) r
   unfolding check_pair
   pair-refused r =
       Iff.trans (verdict-refused (first (pair_checks s t)) r)
@@ -102,13 +105,13 @@ module _ (s t : List ℤ) where
 
   none-of-both : NoneApplies (pair_conditions s t)
       ↔ (AcceptedAs (orientation_of (corners s)) s × AcceptedAs (orientation_of (corners t)) t)
-  none-of-both = Iff.trans (none-append (either_conditions (Of A) s) (either_conditions (Of B) t)) (
-    λ (none-a, none-b). ((none-either (Of A) s).0 none-a, (none-either (Of B) t).0 none-b),
-    λ (ok-a, ok-b). ((none-either (Of A) s).1 ok-a, (none-either (Of B) t).1 ok-b),
+  none-of-both = Iff.trans (none-append (either_conditions (Some A) s) (either_conditions (Some B) t)) (
+    λ (none-a, none-b). ((none-either (Some A) s).0 none-a, (none-either (Some B) t).0 none-b),
+    λ (ok-a, ok-b). ((none-either (Some A) s).1 ok-a, (none-either (Some B) t).1 ok-b),
   )
 
   -- the first three corners of an accepted list tell its orientation
-  pub pair-taken : (o q : Orientation) → (check_pair s t ≡ PairVerdict.Taken o q) ↔ (AcceptedAs o s × AcceptedAs q t)
+  pub pair-taken : (o q : Orientation) → (check_pair s t ≡ Ok (o, q)) ↔ (AcceptedAs o s × AcceptedAs q t)
   unfolding check_pair
   pair-taken o q = Iff.trans (verdict-taken (first (pair_checks s t)) o q) (
     λ (takes, of_a, of_b). rw (of_a, of_b) at (none-of-both.0 (taken.0 takes)),
@@ -117,39 +120,39 @@ module _ (s t : List ℤ) where
         (taken.1 (none-of-both.1 (rw of_a ok-a, rw of_b ok-b)), of_a, of_b),
   )
     where
-      taken : (first (pair_checks s t) ≡ Verdict.Taken) ↔ NoneApplies (pair_conditions s t)
+      taken : (first (pair_checks s t) ≡ Ok tt) ↔ NoneApplies (pair_conditions s t)
       taken = first_taken (pair_checks s t) (pair_conditions s t) decide
 
   -- that is: a refusal of A's list, or A's list is accepted and it is one of B's
   pub pair-fault : (r : Refusal) → FirstFault (pair_conditions s t) r
-      ↔ (FirstFault (either_conditions (Of A) s) r
-      ⊎ (AcceptedAs (orientation_of (corners s)) s × FirstFault (either_conditions (Of B) t) r))
-  pair-fault r = Iff.trans (fault-append (either_conditions (Of A) s) (either_conditions (Of B) t) r) (
-    ⊎_map (λ fault. fault) (λ (none, fault). ((none-either (Of A) s).0 none, fault)),
-    ⊎_map (λ fault. fault) (λ (ok, fault). ((none-either (Of A) s).1 ok, fault)),
+      ↔ (FirstFault (either_conditions (Some A) s) r
+      ⊎ (AcceptedAs (orientation_of (corners s)) s × FirstFault (either_conditions (Some B) t) r))
+  pair-fault r = Iff.trans (fault-append (either_conditions (Some A) s) (either_conditions (Some B) t) r) (
+    ⊎_map (λ fault. fault) (λ (none, fault). ((none-either (Some A) s).0 none, fault)),
+    ⊎_map (λ fault. fault) (λ (ok, fault). ((none-either (Some A) s).1 ok, fault)),
   )
 
   -- for the code, by what the checks of A's list give, and those of B's
-  module _ {v : Verdict} (is-a : v ≡ check_either (Of A) s) where
-    pub check_pair-refused-a : {r : Refusal} → v ≡ Verdict.Refused r → PairVerdict.Refused r ≡ check_pair s t
+  module _ {v : Verdict} (is-a : v ≡ check_either (Some A) s) where
+    pub check_pair-refused-a : {r : Refusal} → v ≡ Err r → Err r ≡ check_pair s t
     unfolding check_pair check_either
     check_pair-refused-a not_taken =
         sym (ap (pair_verdict_for s t)
-        (append-stops (either_checks (Of A) s) (either_checks (Of B) t) (sym is-a ∙ not_taken)))
+        (append-stops (either_checks (Some A) s) (either_checks (Some B) t) (sym is-a ∙ not_taken)))
 
-    module _ (taken-a : v ≡ Verdict.Taken) {w : Verdict} (is_b : w ≡ check_either (Of B) t) where
+    module _ (taken-a : v ≡ Ok tt) {w : Verdict} (is_b : w ≡ check_either (Some B) t) where
       by-b : {u : Verdict} → w ≡ u → pair_verdict_for s t u ≡ check_pair s t
       unfolding check_pair check_either
       by-b is =
           sym (ap (pair_verdict_for s t)
-          (append-goes-on (either_checks (Of A) s) (either_checks (Of B) t) (sym is-a ∙ taken-a) ∙ sym is_b ∙ is))
+          (append-goes-on (either_checks (Some A) s) (either_checks (Some B) t) (sym is-a ∙ taken-a) ∙ sym is_b ∙ is))
 
-      pub check_pair-refused-b : {r : Refusal} → w ≡ Verdict.Refused r → PairVerdict.Refused r ≡ check_pair s t
+      pub check_pair-refused-b : {r : Refusal} → w ≡ Err r → Err r ≡ check_pair s t
       check_pair-refused-b not_taken = by-b not_taken
 
-      pub check_pair-taken : {o q : Orientation} → w ≡ Verdict.Taken → o ≡ orientation_of (corners s)
-          → q ≡ orientation_of (corners t) → PairVerdict.Taken o q ≡ check_pair s t
-      check_pair-taken taken-b of_a of_b = (λ i. PairVerdict.Taken (of_a i) (of_b i)) ∙ by-b taken-b
+      pub check_pair-taken : {o q : Orientation} → w ≡ Ok tt → o ≡ orientation_of (corners s)
+          → q ≡ orientation_of (corners t) → Ok (o, q) ≡ check_pair s t
+      check_pair-taken taken-b of_a of_b = (λ i. Ok (of_a i, of_b i)) ∙ by-b taken-b
 
 module _ (s t : List ℤ) (o q : Orientation) (ok-a : AcceptedAs o s) (ok-b : AcceptedAs q t) where
   -- lists that are accepted with orientations are accepted as held
@@ -174,20 +177,20 @@ module _ (s t : List ℤ) (allowance : ℕ) where
   obeys o q ok-a ok-b = law _ _ (held-pair s t o q ok-a ok-b) allowance
 
   -- it is refused exactly with the refusal of the first condition that applies
-  pub compare-refuses : (r : Refusal) → (comparison s t allowance ≡ Refused r) ↔ FirstFault (pair_conditions s t) r
+  pub compare-refuses : (r : Refusal) → (comparison s t allowance ≡ Err r) ↔ FirstFault (pair_conditions s t) r
   compare-refuses r = Iff.trans (comparison_for-refused s t allowance (check_pair s t) r) (pair-refused s t r)
 
   -- some condition applies, or both lists are accepted
   pub is-comparison : IsComparison s t allowance (comparison s t allowance)
   is-comparison = go (check_pair s t) refl
     where
-      go : (v : PairVerdict) → check_pair s t ≡ v → IsComparison s t allowance (comparison_for s t allowance v)
-      go (PairVerdict.Refused r) refuses = refused r ((pair-refused s t r).0 refuses) refl
-      go (PairVerdict.Taken o q) takes =
+      go : (v : Result (Orientation × Orientation) Refusal) → check_pair s t ≡ v → IsComparison s t allowance (comparison_for s t allowance v)
+      go (Err r) refuses = refused r ((pair-refused s t r).0 refuses) refl
+      go (Ok (o, q)) takes =
           let (ok-a, ok-b) = (pair-taken s t o q).0 takes in
           reported o q _ ok-a ok-b (obeys o q ok-a ok-b) refl
 
-  pub reported-means : (q : Report) → IsComparison s t allowance (Reported q) → Reports s t allowance q
+  pub reported-means : (q : Report) → IsComparison s t allowance (Ok q) → Reports s t allowance q
   reported-means q (refused r first is) = absurd (let z : ◌≡◌ {A = ℕ} 0 1 = cc in omega arith)
   reported-means q (reported o p r ok-a ok-b lawful is) = record {
     accepted_a = rw of_a ok-a;
@@ -203,37 +206,37 @@ module _ (s t : List ℤ) (allowance : ℕ) where
       of_b : orientation_of (corners t) ≡ p
       of_b = accepted-orientation p t ok-b
 
-      same-report : {x : Report} → Reported q ≡ Reported x → q ≡ x
+      same-report : {x : Report} → ◌≡◌ {A = Result Report Refusal} (Ok q) (Ok x) → q ≡ x
       same-report e = cc
 
   -- only one report is such
-  reports-unique : (q : Report) → Reports s t allowance q → Reported q ≡ comparison s t allowance
+  reports-unique : (q : Report) → Reports s t allowance q → Ok q ≡ comparison s t allowance
   reports-unique q tells =
       let ok-a = tells.accepted_a in let ok-b = tells.accepted_b in
       rw ((pair-taken s t _ _).1 (ok-a, ok-b), tells.named)
-      (ap (λ (x : Report). Reported (given_report (pair_of s t) (orientations s t) x))
+      (ap (λ (x : Report). Ok (given_report (pair_of s t) (orientations s t) x))
       (law-unique (held-polygons s t _ _ ok-a ok-b) tells.lawful (obeys _ _ ok-a ok-b)))
 
   -- so each case leaves one result
-  pub comparison-unique : {result : Comparison} → IsComparison s t allowance result → result ≡ comparison s t allowance
+  pub comparison-unique : {result : Result Report Refusal} → IsComparison s t allowance result → result ≡ comparison s t allowance
   comparison-unique (refused r first is) = rw (is, (pair-refused s t r).1 first)
   comparison-unique (reported o p r ok-a ok-b lawful is) =
       is ∙ reports-unique _ (reported-means _ (reported o p r ok-a ok-b lawful refl))
 
-  pub call-promises : {result : Comparison} → result ≡ comparison s t allowance
+  pub call-promises : {result : Result Report Refusal} → result ≡ comparison s t allowance
       → (result ≡ comparison s t allowance) × IsComparison s t allowance result
   call-promises is = (is, rw is is-comparison)
 
-  module _ {v : PairVerdict} (found : v ≡ check_pair s t) where
-    pub call-refused : {r : Refusal} → v ≡ PairVerdict.Refused r → Refused r ≡ comparison s t allowance
+  module _ {v : Result (Orientation × Orientation) Refusal} (found : v ≡ check_pair s t) where
+    pub call-refused : {r : Refusal} → v ≡ Err r → Err r ≡ comparison s t allowance
     call-refused is = ap (comparison_for s t allowance) (sym is ∙ found)
 
-    pub call-reported : {o q : Orientation} {r : Report} → v ≡ PairVerdict.Taken o q → r ≡ report_for o q s t allowance
-        → Reported r ≡ comparison s t allowance
-    call-reported is made = ap Reported made ∙ ap (comparison_for s t allowance) (sym is ∙ found)
+    pub call-reported : {o q : Orientation} {r : Report} → v ≡ Ok (o, q) → r ≡ report_for o q s t allowance
+        → Ok r ≡ comparison s t allowance
+    call-reported is made = ap Ok made ∙ ap (comparison_for s t allowance) (sym is ∙ found)
 
 -- a spent report tells that the allowance is below the number of corners of both
-pub spent-report-below : (s t : List ℤ) (k : ℕ) (p : Spent) → IsComparison s t k (Reported (Report.Spent p))
+pub spent-report-below : (s t : List ℤ) (k : ℕ) (p : Spent) → IsComparison s t k (Ok (Report.Spent p))
     → k < length (corners s) + length (corners t)
 spent-report-below s t k p is =
     let tells = reported-means s t k (Report.Spent p) is in go tells.answer_as_held tells.lawful tells.named
@@ -255,7 +258,7 @@ pub record DoneReports (s t : List ℤ) (d : Done) : Type 0 where
   pub of : OfDone (pair_of s t) (orientations s t) answer_as_held
   pub named : d ≡ given_done (pair_of s t) (orientations s t) answer_as_held
 
-pub done-means : (s t : List ℤ) (k : ℕ) (d : Done) → IsComparison s t k (Reported (Report.Done d)) → DoneReports s t d
+pub done-means : (s t : List ℤ) (k : ℕ) (d : Done) → IsComparison s t k (Ok (Report.Done d)) → DoneReports s t d
 done-means s t k d is =
     let tells = reported-means s t k (Report.Done d) is in go tells.answer_as_held tells.lawful tells.named
   where
@@ -265,8 +268,8 @@ done-means s t k d is =
     go (Report.Done e) lawful named = record { answer_as_held = e; of = (law-done lawful).1; named = cc }
 
 -- the clearance of a done report is that of its gap, and a clearance goes by the value alone
-pub clearance-same : {s t s' t' : List ℤ} {k j : ℕ} {d e : Done} → IsComparison s t k (Reported (Report.Done d))
-    → IsComparison s' t' j (Reported (Report.Done e)) → SameValue d.answer.gap e.answer.gap
+pub clearance-same : {s t s' t' : List ℤ} {k j : ℕ} {d e : Done} → IsComparison s t k (Ok (Report.Done d))
+    → IsComparison s' t' j (Ok (Report.Done e)) → SameValue d.answer.gap e.answer.gap
     → d.clearance ≡ e.clearance
 clearance-same one other same =
     let here = done-means _ _ _ _ one in let there = done-means _ _ _ _ other in
@@ -276,7 +279,7 @@ clearance-same one other same =
 
 module _ (s t : List ℤ) (k j : ℕ) (d e : Done) where
   -- the gap of a done report is the Hausdorff distance
-  pub comparison-swap : IsComparison s t k (Reported (Report.Done d)) → IsComparison t s j (Reported (Report.Done e))
+  pub comparison-swap : IsComparison s t k (Ok (Report.Done d)) → IsComparison t s j (Ok (Report.Done e))
       → SameValue d.answer.gap e.answer.gap
   comparison-swap one other =
       let here = done-means s t k d one in let there = done-means t s j e other in
@@ -284,12 +287,12 @@ module _ (s t : List ℤ) (k j : ℕ) (d e : Done) where
       (hausdorff-swap (held_corners t) (held_corners s) there.of.distance))
 
   -- so the clearance is the same
-  pub clearance-swap : IsComparison s t k (Reported (Report.Done d)) → IsComparison t s j (Reported (Report.Done e))
+  pub clearance-swap : IsComparison s t k (Ok (Report.Done d)) → IsComparison t s j (Ok (Report.Done e))
       → d.clearance ≡ e.clearance
   clearance-swap one other = clearance-same one other (comparison-swap one other)
 
   -- and the gaps of its sides are the directed ones
-  pub sides-swap : IsComparison s t k (Reported (Report.Done d)) → IsComparison t s j (Reported (Report.Done e))
+  pub sides-swap : IsComparison s t k (Ok (Report.Done d)) → IsComparison t s j (Ok (Report.Done e))
       → SameValue d.sides.a.gap e.sides.b.gap × SameValue d.sides.b.gap e.sides.a.gap
   sides-swap one other =
       let here = done-means s t k d one in let there = done-means t s j e other in

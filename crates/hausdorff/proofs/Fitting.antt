@@ -14,6 +14,7 @@ use native.Mathlib.Omega.{arith}
 use lib.Dec.{T, ltb, lit<, lit≤, ltb→lt}
 use lib.IntN.{ℤ, nat_abs}
 use lib.ListN.{length}
+use Rattle.std.specs.Prelude.{Ok, Option, None, Some}
 use Rattle.integers.specs.Size.{AtMost}
 use Rattle.integers.proofs.Machine.{at_most-*}
 use Rattle.plane.specs.declared.Corner.{Corner}
@@ -31,7 +32,6 @@ use Rattle.outline.proofs.EitherLaws.{accepted-held}
 use Rattle.outline.proofs.OrientationLaws.{given_below, held-length}
 use Rattle.nearest.specs.declared.Feature.{Feature}
 use Rattle.nearest.specs.declared.NearestPoint.{NearestPoint}
-use Rattle.nearest.specs.declared.NearestAnswer.TheVariants.{Found}
 use Rattle.nearest.specs.code.Call.{nearest_answer}
 use Rattle.nearest.specs.Feature.{values}
 use Rattle.nearest.specs.Given.{given_feature, given_nearest}
@@ -41,14 +41,11 @@ use Rattle.nearest.proofs.CallLaws.{nearest-answers}
 use Rattle.nearest.proofs.GapLimit.{gap-at-most}
 use Rattle.nearest.proofs.GivenLaws.{given-feature-below, answers-below}
 use Rattle.hausdorff.specs.declared.CornerGap.{CornerGap}
-use Rattle.hausdorff.specs.declared.WorstSoFar.{WorstSoFar}
-use Rattle.hausdorff.specs.declared.WorstSoFar.TheVariants.{None, Worst}
 use Rattle.outline.specs.declared.Side.{Side}
 use Rattle.outline.specs.declared.Side.TheVariants.{A, B}
 use Rattle.hausdorff.specs.declared.Spent.{Spent}
 use Rattle.hausdorff.specs.declared.Done.{Done}
 use Rattle.hausdorff.specs.declared.Report.{Report}
-use Rattle.hausdorff.specs.declared.Comparison.TheVariants.{Reported}
 use Rattle.hausdorff.specs.Pair.{Pair, Orientations, given, other}
 use Rattle.hausdorff.specs.code.Pair.{AcceptedPair}
 use Rattle.hausdorff.specs.Answer.{IsGap}
@@ -107,7 +104,7 @@ module _ {cs : List Corner} (ok : Accepted cs) where
       point_lower = fits.point_lower;
     }
 
-pub found-fits : (v : Corner) (s : List ℤ) {a : NearestPoint} → nearest_answer v s ≡ Found a → NearestFits a
+pub found-fits : (v : Corner) (s : List ℤ) {a : NearestPoint} → nearest_answer v s ≡ Ok a → NearestFits a
 found-fits v s {a} is =
     let of = (nearest-answers v s a).0 is in let o = of.orientation in
     rw (of.named, ← held-length o (corners s))
@@ -124,9 +121,9 @@ module _ {pair : Pair} (os : Orientations) (ok : AcceptedPair pair) where
     nearest = given-fits (ok t) ((ok w.side).all_in_range w.corner is.known) (os t) is.answers;
   }
 
-  worst-fits : (T : CornerGap → Type 0) (x : WorstSoFar) → LeadsOrNone pair os T x → WorstFits (given_worst pair os x)
+  worst-fits : (T : CornerGap → Type 0) (x : Option CornerGap) → LeadsOrNone pair os T x → WorstFits (given_worst pair os x)
   worst-fits T None is = tt
-  worst-fits T (Worst w) leads = corner-fits leads.is_gap
+  worst-fits T (Some w) leads = corner-fits leads.is_gap
 
   -- no gap is above 2 · 32,000², and the square of 45,255 is
   pub clearance-at-most : {d : Done} → OfDone pair os d → d.clearance ≤ 45255
@@ -159,7 +156,7 @@ module _ {pair : Pair} (os : Orientations) (ok : AcceptedPair pair) where
   by-report (Report.Spent p) lawful = of-spent-fits (law-spent lawful).1
   by-report (Report.Done d) lawful = of-done-fits (law-done lawful).1
 
-pub report-fits : (s t : List ℤ) (allowance : ℕ) (q : Report) → IsComparison s t allowance (Reported q) → ReportFits q
+pub report-fits : (s t : List ℤ) (allowance : ℕ) (q : Report) → IsComparison s t allowance (Ok q) → ReportFits q
 report-fits s t allowance q is =
     let tells = reported-means s t allowance q is in
     rw tells.named (by-report (orientations s t)

@@ -13,6 +13,8 @@ use mathlib.Core.Logic.{◌↔◌}
 use mathlib.Core.List.{List}
 use lib.IntN.{ℤ}
 use lib.ListN.{length}
+use Rattle.std.specs.Prelude.{Result, Ok, Option, None, Some}
+use Rattle.outline.specs.declared.Refusal.{Refusal}
 use Rattle.outline.specs.declared.Orientation.TheVariants.{Counterclockwise}
 use Rattle.outline.specs.declared.Side.{Side}
 use Rattle.outline.specs.declared.Side.TheVariants.{A, B}
@@ -24,10 +26,7 @@ use Rattle.outline.proofs.OrientationLaws.{given-twice}
 use Rattle.nearest.specs.Given.{given_nearest}
 use Rattle.nearest.proofs.GivenLaws.{given-nearest-held, given-nearest-twice, answers-below}
 use Rattle.hausdorff.specs.declared.CornerGap.{CornerGap}
-use Rattle.hausdorff.specs.declared.WorstSoFar.{WorstSoFar}
-use Rattle.hausdorff.specs.declared.WorstSoFar.TheVariants.{None, Worst}
 use Rattle.hausdorff.specs.declared.Report.{Report}
-use Rattle.hausdorff.specs.declared.Comparison.TheVariants.{Reported}
 use Rattle.hausdorff.specs.Pair.{Pair, both, Orientations, both_orientations, given, other}
 use Rattle.hausdorff.specs.CornerGap.{with_corner, nearest_of}
 use Rattle.hausdorff.specs.Answer.{IsGap}
@@ -64,9 +63,9 @@ module _ (pair : Pair) (os : Orientations) (held : (s : Side) → os s ≡ Count
       λ i. with_corner s (given-number-held s w.corner i) (nearest i)
 
   -- none stays none
-  given-worst-held : (x : WorstSoFar) → given_worst pair os x ≡ x
+  given-worst-held : (x : Option CornerGap) → given_worst pair os x ≡ x
   given-worst-held None = refl
-  given-worst-held (Worst w) = ap Worst (given-gap-held w)
+  given-worst-held (Some w) = ap Some (given-gap-held w)
 
   -- so a report is given as it is held
   pub given-report-held : (r : Report) → given_report pair os r ≡ r
@@ -92,9 +91,9 @@ module _ (s t : List ℤ) (allowance : ℕ) (strict-a : AcceptedList s) (strict-
   ok-b = (strict-either t).1 strict-b
 
   -- and held as they are, and so a report of them is given as it is
-  law-reported : (r : Report) → Law listed strictly allowance r → IsComparison s t allowance (Reported r)
+  law-reported : (r : Report) → Law listed strictly allowance r → IsComparison s t allowance (Ok r)
   law-reported r lawful = reported Counterclockwise Counterclockwise r ok-a ok-b lawful
-      (ap Reported (sym (given-report-held listed strictly both-counterclockwise r)))
+      (ap Ok (sym (given-report-held listed strictly both-counterclockwise r)))
 
   -- and there is one, for every allowance
   obeys : Law listed strictly allowance (report listed strictly allowance)
@@ -102,15 +101,16 @@ module _ (s t : List ℤ) (allowance : ℕ) (strict-a : AcceptedList s) (strict-
 
   -- so the call gives the report of the corners as given
   pub strict-comparison : comparison s t allowance
-      ≡ Reported (report (both (corners s) (corners t)) (both_orientations Counterclockwise Counterclockwise) allowance)
+      ≡ Ok (report (both (corners s) (corners t)) (both_orientations Counterclockwise Counterclockwise) allowance)
   strict-comparison = sym (comparison-unique s t allowance (law-reported _ obeys))
 
   -- which is the one that obeys their law
-  pub strict-reported : (r : Report) → IsComparison s t allowance (Reported r)
+  pub strict-reported : (r : Report) → IsComparison s t allowance (Ok r)
       ↔ Law (both (corners s) (corners t)) (both_orientations Counterclockwise Counterclockwise) allowance r
   strict-reported r = (λ is. by-report (comparison-unique s t allowance is ∙ strict-comparison), law-reported r)
     where
-      by-report : Reported r ≡ Reported (report listed strictly allowance) → Law listed strictly allowance r
+      by-report : ◌≡◌ {A = Result Report Refusal} (Ok r) (Ok (report listed strictly allowance))
+          → Law listed strictly allowance r
       by-report is = let same : r ≡ report listed strictly allowance = cc in rw same obeys
 
 -- ---- named twice
@@ -124,10 +124,10 @@ module _ (pair : Pair) (os : Orientations) where
       λ i. with_corner s (number i) (nearest i)
 
   -- none stays none
-  given-worst-twice : (T : CornerGap → Type 0) (x : WorstSoFar) → LeadsOrNone pair os T x
+  given-worst-twice : (T : CornerGap → Type 0) (x : Option CornerGap) → LeadsOrNone pair os T x
       → given_worst pair os (given_worst pair os x) ≡ x
   given-worst-twice T None is = refl
-  given-worst-twice T (Worst w) leads = ap Worst (given-gap-twice w leads.is_gap)
+  given-worst-twice T (Some w) leads = ap Some (given-gap-twice w leads.is_gap)
 
   module _ (polygons : Polygons pair) where
     -- a support corner is a corner of its outline

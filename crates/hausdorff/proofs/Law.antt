@@ -11,6 +11,7 @@ use mathlib.Core.Bool.{Bool, true, false}
 use native.Mathlib.Omega.{arith}
 use borrow.Author.Tests.{lt-ltb, le-ltb, ltb-true, ltb-false}
 use lib.Dec.{ltb}
+use Rattle.std.specs.Prelude.{Option, Some}
 use Rattle.integers.proofs.RootLaws.{ceiling-root, ceiling-unique}
 use Rattle.outline.specs.Corners.{corner}
 use Rattle.outline.proofs.EdgeLaws.{accepted-polygon}
@@ -21,8 +22,6 @@ use Rattle.hausdorff.specs.declared.Spent.{Spent}
 use Rattle.hausdorff.specs.declared.Done.{Done}
 use Rattle.hausdorff.specs.declared.CornerGap.{CornerGap}
 use Rattle.hausdorff.specs.declared.Report.{Report}
-use Rattle.hausdorff.specs.declared.WorstSoFar.{WorstSoFar}
-use Rattle.hausdorff.specs.declared.WorstSoFar.TheVariants.{Worst}
 use Rattle.hausdorff.specs.Pair.{Pair, Orientations, step_count}
 use Rattle.hausdorff.specs.CornerGap.{with_corner}
 use Rattle.hausdorff.specs.Answer.{IsGap, Leads, IsAnswer, TrueFigure}
@@ -102,7 +101,7 @@ module _ (pair : Pair) (os : Orientations) (accepted : AcceptedPair pair) where
   }
 
   -- a worst so far that is there leads among its gaps
-  worst-leads : {T : CornerGap → Type 0} {x : WorstSoFar} {w : CornerGap} → x ≡ Worst w
+  worst-leads : {T : CornerGap → Type 0} {x : Option CornerGap} {w : CornerGap} → x ≡ Some w
       → LeadsOrNone pair os T x → Leads pair os T w
   worst-leads {T} is leads = subst (LeadsOrNone pair os T) is leads
 

@@ -16,6 +16,7 @@ use mathlib.Core.Path.{◌≡◌}
 use mathlib.Core.Logic.{◌⊎◌, ⊎_elim}
 use mathlib.Core.List.{List, reverse}
 use lib.IntN.{ℤ}
+use Rattle.std.specs.Prelude.{Ok}
 use Rattle.integers.specs.declared.fraction.Fraction.{Fraction}
 use Rattle.integers.specs.Fraction.{SameValue}
 use Rattle.outline.specs.declared.Orientation.{Orientation}
@@ -27,7 +28,6 @@ use Rattle.nearest.proofs.Reversal.{cycle-piece, start-cycle, reversal-cycle}
 use Rattle.nearest.proofs.Rotation.{starting_at, SamePiece}
 use Rattle.hausdorff.specs.declared.Done.{Done}
 use Rattle.hausdorff.specs.declared.Report.TheVariants as Report
-use Rattle.hausdorff.specs.declared.Comparison.TheVariants.{Reported}
 use Rattle.hausdorff.specs.Pair.{other}
 use Rattle.hausdorff.specs.Hausdorff.{Directed}
 use Rattle.hausdorff.specs.Call.{IsComparison}
@@ -52,8 +52,8 @@ start-same-piece k is = λ o q ok-s ok-t. cycle-piece _ _ (start-cycle ok-s ok-t
 pub reversal-same-piece : {s t : List ℤ} → SameOrReversed s t → SameHeldPiece s t
 reversal-same-piece = ⊎_elim (start-same-piece 0) (λ is o q ok-s ok-t. cycle-piece _ _ (reversal-cycle ok-s ok-t is))
 
-module _ (s t s' t' : List ℤ) (k j : ℕ) (d e : Done) (one : IsComparison s t k (Reported (Report.Done d)))
-    (another : IsComparison s' t' j (Reported (Report.Done e))) where
+module _ (s t s' t' : List ℤ) (k j : ℕ) (d e : Done) (one : IsComparison s t k (Ok (Report.Done d)))
+    (another : IsComparison s' t' j (Ok (Report.Done e))) where
   module _ (same-a : SameHeldPiece s s') (same-b : SameHeldPiece t t') where
     -- the two outlines of one report, as held, give the pieces of the other's
     pieces : (r : Side) → SamePiece (pair_of s t r) (pair_of s' t' r)

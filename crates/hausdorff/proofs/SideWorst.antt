@@ -8,6 +8,7 @@ use Prim.Native.Nat.{ℕ, ◌<◌}
 use mathlib.Core.Path.{◌≡◌, refl}
 use mathlib.Core.Bool.{Bool, true, false}
 use lib.ListN.{length}
+use Rattle.std.specs.Prelude.{Option, None, Some}
 use Rattle.integers.specs.Fraction.{NotGreater}
 use Rattle.integers.proofs.Greatest.{Greatest}
 use Rattle.plane.specs.Point.{whole}
@@ -16,8 +17,7 @@ use Rattle.nearest.specs.Piece.{InPiece, Outside, is_outside}
 use Rattle.nearest.specs.code.Local.{feature}
 use Rattle.nearest.proofs.PieceLaws.{outside-test, inside-test}
 use Rattle.outline.specs.declared.Side.{Side}
-use Rattle.hausdorff.specs.declared.WorstSoFar.{WorstSoFar}
-use Rattle.hausdorff.specs.declared.WorstSoFar.TheVariants.{None, Worst}
+use Rattle.hausdorff.specs.declared.CornerGap.{CornerGap}
 use Rattle.hausdorff.specs.Pair.{Pair, Orientations, given, other, step_count}
 use Rattle.hausdorff.specs.code.Pair.{Polygons}
 use Rattle.hausdorff.specs.code.CornerGap.{corner_gap}
@@ -31,9 +31,9 @@ use Rattle.hausdorff.proofs.WorstLaws.{WorstOf, worst-after, counted-outside, me
 use Rattle.hausdorff.proofs.GapLaws.{least_iff}
 use Rattle.hausdorff.specs.Counted.{Counted}
 
-abbrev pub SideWorst : Pair → Orientations → Side → WorstSoFar → Type 0
+abbrev pub SideWorst : Pair → Orientations → Side → Option CornerGap → Type 0
 SideWorst pair os s None = (i : ℕ) → i < length (pair s) → InPiece (pair (other s)) (whole (corner (pair s) i))
-SideWorst pair os s (Worst w) =
+SideWorst pair os s (Some w) =
     PreferredOf pair os s (λ j. j < length (pair s)) w × Outside (pair (other s)) (whole (corner (pair s) w.corner))
 
 module _ (pair : Pair) (os : Orientations) (polygons : Polygons pair) (s : Side) where
@@ -66,9 +66,9 @@ module _ (pair : Pair) (os : Orientations) (polygons : Polygons pair) (s : Side)
           ((inside-test (pair (other s)) (corner (pair s) best.place)).0 fails)).0 (best.over i below).not_less
 
       go : (t : Bool) → is_outside (pair (other s)) (corner (pair s) best.place) ≡ t
-          → (x : WorstSoFar) → WorstOf pair os s (Counted pair (step_count pair) s) x → SideWorst pair os s x
+          → (x : Option CornerGap) → WorstOf pair os s (Counted pair (step_count pair) s) x → SideWorst pair os s x
       go true holds None none = absurd (none best.place (best-counted holds))
-      go true holds (Worst w) most =
+      go true holds (Some w) most =
           let is-outside = counted-outside pair polygons s w.corner (step_count pair) most.holds in (
             record {
               equal = most.equal;
@@ -79,7 +79,7 @@ module _ (pair : Pair) (os : Orientations) (polygons : Polygons pair) (s : Side)
             is-outside.outside,
           )
       go false fails None none = all-within fails
-      go false fails (Worst w) most =
+      go false fails (Some w) most =
           let is-outside = counted-outside pair polygons s w.corner (step_count pair) most.holds in
           absurd (is-outside.outside (all-within fails w.corner is-outside.known))
 

@@ -16,6 +16,7 @@ use mathlib.Core.Bool.{Bool, true, false, cond}
 use mathlib.Core.List.{List, [], ◌∷◌}
 use native.Mathlib.Omega.{arith}
 use lib.ListN.{length, take}
+use Rattle.std.specs.Prelude.{Option, None, Some}
 use Rattle.integers.proofs.Reflect.{test-false}
 use Rattle.plane.specs.declared.Corner.{Corner}
 use Rattle.plane.specs.Point.{whole}
@@ -24,8 +25,7 @@ use Rattle.outline.proofs.CornersLaws.{next-below}
 use Rattle.nearest.specs.Piece.{Outside}
 use Rattle.nearest.specs.code.Local.{feature}
 use Rattle.outline.specs.declared.Side.{Side}
-use Rattle.hausdorff.specs.declared.WorstSoFar.{WorstSoFar}
-use Rattle.hausdorff.specs.declared.WorstSoFar.TheVariants.{None, Worst}
+use Rattle.hausdorff.specs.declared.CornerGap.{CornerGap}
 use Rattle.hausdorff.specs.Pair.{Pair, Orientations, given, other, same_side, step_count}
 use Rattle.hausdorff.specs.code.Pair.{Polygons}
 use Rattle.hausdorff.specs.AngularOrder.{PairEdge, angular_order}
@@ -42,9 +42,9 @@ use Rattle.hausdorff.proofs.SweepLaws.{Met}
 use Rattle.hausdorff.proofs.Preference.{Preferred, preferred-refl, taken-preferred, side-trans, PreferredOf}
 
 -- a side's worst is the preferred one of the corners that have a property, or none where none has it
-abbrev pub WorstOf : Pair → Orientations → Side → (ℕ → Type 0) → WorstSoFar → Type 0
+abbrev pub WorstOf : Pair → Orientations → Side → (ℕ → Type 0) → Option CornerGap → Type 0
 WorstOf pair os s Q None = (i : ℕ) → ¬ Q i
-WorstOf pair os s Q (Worst w) = PreferredOf pair os s Q w
+WorstOf pair os s Q (Some w) = PreferredOf pair os s Q w
 
 -- a corner of the side that is not within the other piece
 pub record IsOutsideCorner (pair : Pair) (s : Side) (i : ℕ) : Type 0 where
@@ -53,9 +53,9 @@ pub record IsOutsideCorner (pair : Pair) (s : Side) (i : ℕ) : Type 0 where
 
 module _ (pair : Pair) (os : Orientations) (s : Side) where
   -- only which corners it is the worst of matters, not how that is said
-  worst-map : {Q R : ℕ → Type 0} → ((i : ℕ) → Q i ↔ R i) → (x : WorstSoFar) → WorstOf pair os s Q x → WorstOf pair os s R x
+  worst-map : {Q R : ℕ → Type 0} → ((i : ℕ) → Q i ↔ R i) → (x : Option CornerGap) → WorstOf pair os s Q x → WorstOf pair os s R x
   worst-map same None none = λ i r. none i ((same i).1 r)
-  worst-map same (Worst w) best = record {
+  worst-map same (Some w) best = record {
     equal = best.equal;
     holds = (same w.corner).0 best.holds;
     preferred = λ j r. best.preferred j ((same j).1 r);
@@ -63,12 +63,12 @@ module _ (pair : Pair) (os : Orientations) (s : Side) where
 
 module _ (pair : Pair) (os : Orientations) (polygons : Polygons pair) (s : Side) where
   -- what is kept of the worst of some corners and the worst of others is the worst of all of these
-  keep-worst : (Q R : ℕ → Type 0) (old new : WorstSoFar) → WorstOf pair os s Q old → WorstOf pair os s R new
+  keep-worst : (Q R : ℕ → Type 0) (old new : Option CornerGap) → WorstOf pair os s Q old → WorstOf pair os s R new
       → WorstOf pair os s (λ i. Q i ⊎ R i) (keep (given pair os s) old new)
   keep-worst Q R None new none q = worst-map pair os s (λ i. (inr, ⊎_elim (λ h. absurd (none i h)) (λ h. h))) new q
-  keep-worst Q R (Worst old) None p none =
-      worst-map pair os s (λ i. (inl, ⊎_elim (λ h. h) (λ h. absurd (none i h)))) (Worst old) p
-  keep-worst Q R (Worst old) (Worst new) p q =
+  keep-worst Q R (Some old) None p none =
+      worst-map pair os s (λ i. (inl, ⊎_elim (λ h. h) (λ h. absurd (none i h)))) (Some old) p
+  keep-worst Q R (Some old) (Some new) p q =
       go (takes_place (given pair os s) new old) (taken-preferred (given pair os s) new old)
     where
       go : (t : Bool) → Preferred (given pair os s) (cond t new old) (cond t old new)
@@ -131,7 +131,7 @@ module _ (pair : Pair) (polygons : Polygons pair) where
         means = counts-iff (polygons (other s)) b (support-known j (other s)) v
 
         go : (t : Bool) → is_counted (pair (other s)) b v ≡ t
-            → WorstOf pair os s (CountsAfter pair j s) (cond t (Worst (corner_gap pair s i)) None)
+            → WorstOf pair os s (CountsAfter pair j s) (cond t (Some (corner_gap pair s i)) None)
         go true holds = record {
           equal = refl;
           holds = (refl, means.0 holds);

@@ -1,11 +1,9 @@
 -- A corner of one outline with its nearest point in the other.
-use Rattle.std.specs.Prelude.{ℕ, cond}
+use Rattle.std.specs.Prelude.{ℕ, cond, Option, None, Some}
 use Rattle.integers.specs.Fraction.{is_less}
 use Rattle.nearest.specs.declared.NearestPoint.{NearestPoint}
 use Rattle.outline.specs.declared.Side.{Side}
 use Rattle.hausdorff.specs.declared.CornerGap.{CornerGap}
-use Rattle.hausdorff.specs.declared.WorstSoFar.{WorstSoFar}
-use Rattle.hausdorff.specs.declared.WorstSoFar.TheVariants.{None, Worst}
 
 -- a nearest point with the side and the corner that it is for
 abbrev pub with_corner : Side → ℕ → NearestPoint → CornerGap
@@ -20,7 +18,7 @@ abbrev pub worse : CornerGap → CornerGap → CornerGap
 worse w z = cond (is_less w.gap z.gap) z w
 
 -- rule 5.8, the worse of A's worst so far and B's: A's where the gaps are equal, and the one that there is, if any
-abbrev pub overall : WorstSoFar → WorstSoFar → WorstSoFar
+abbrev pub overall : Option CornerGap → Option CornerGap → Option CornerGap
 overall None b = b
-overall (Worst a) None = Worst a
-overall (Worst a) (Worst b) = Worst (worse a b)
+overall (Some a) None = Some a
+overall (Some a) (Some b) = Some (worse a b)

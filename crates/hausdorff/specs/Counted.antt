@@ -1,5 +1,5 @@
 -- Which corners the sweep counts, and the worst so far.
-use Rattle.std.specs.Prelude.{ℕ, ◌<◌, ◌≡◌, ◌⊎◌, List, pos, length, ◌≤ℤ◌}
+use Rattle.std.specs.Prelude.{ℕ, ◌<◌, ◌≡◌, ◌⊎◌, List, pos, length, ◌≤ℤ◌, Option, None, Some}
 use Rattle.plane.specs.declared.Corner.{Corner}
 use Rattle.plane.specs.declared.Point.{Point}
 use Rattle.plane.specs.Point.{whole, ◌⇢◌, Same}
@@ -9,8 +9,6 @@ use Rattle.outline.specs.declared.Side.{Side}
 use Rattle.nearest.specs.Nearest.{Nearest}
 use Rattle.nearest.specs.Piece.{side_of, Outside}
 use Rattle.hausdorff.specs.declared.CornerGap.{CornerGap}
-use Rattle.hausdorff.specs.declared.WorstSoFar.{WorstSoFar}
-use Rattle.hausdorff.specs.declared.WorstSoFar.TheVariants.{None, Worst}
 use Rattle.hausdorff.specs.Pair.{Pair, Orientations, other}
 use Rattle.hausdorff.specs.Answer.{Leads}
 use Rattle.hausdorff.specs.Support.{support_after}
@@ -41,15 +39,15 @@ abbrev pub Counted : Pair → ℕ → Side → ℕ → Type 0
 Counted pair k s i = (j : ℕ) × (j < k) × CountsAfter pair j s i
 
 -- the greatest of some gaps, of equals the first; or none, if there are none of these
-abbrev pub LeadsOrNone : Pair → Orientations → (CornerGap → Type 0) → WorstSoFar → Type 0
+abbrev pub LeadsOrNone : Pair → Orientations → (CornerGap → Type 0) → Option CornerGap → Type 0
 LeadsOrNone pair os Among None = (z : CornerGap) → ¬ Among z
-LeadsOrNone pair os Among (Worst w) = Leads pair os Among w
+LeadsOrNone pair os Among (Some w) = Leads pair os Among w
 
 -- rule 5.7, the worst so far after k steps: the greatest gap that counts in them, of equals the first; or none, if
 -- none counts
-abbrev pub IsWorst : Pair → Orientations → ℕ → WorstSoFar → Type 0
+abbrev pub IsWorst : Pair → Orientations → ℕ → Option CornerGap → Type 0
 IsWorst pair os k x = LeadsOrNone pair os (λ z. Counted pair k z.side z.corner) x
 
 -- rule 5.8, the worst so far of a side: the same, of what counts of that side
-abbrev pub IsSideWorst : Pair → Orientations → ℕ → Side → WorstSoFar → Type 0
+abbrev pub IsSideWorst : Pair → Orientations → ℕ → Side → Option CornerGap → Type 0
 IsSideWorst pair os k s x = LeadsOrNone pair os (λ z. (z.side ≡ s) × Counted pair k s z.corner) x

@@ -1,10 +1,8 @@
 -- Rule 6.5: a report with its corners and edges named by the lists as given, where `pair` has the corners as held.
-use Rattle.std.specs.Prelude.{length}
+use Rattle.std.specs.Prelude.{length, Option, None, Some}
 use Rattle.outline.specs.declared.Side.TheVariants.{A, B}
 use Rattle.nearest.specs.Given.{given_nearest}
 use Rattle.hausdorff.specs.declared.CornerGap.{CornerGap}
-use Rattle.hausdorff.specs.declared.WorstSoFar.{WorstSoFar}
-use Rattle.hausdorff.specs.declared.WorstSoFar.TheVariants.{None, Worst}
 use Rattle.hausdorff.specs.declared.Spent.{Spent}
 use Rattle.hausdorff.specs.declared.Done.{Done}
 use Rattle.hausdorff.specs.declared.Report.{Report}
@@ -18,9 +16,9 @@ given_gap pair os w =
     with_corner w.side (given pair os w.side w.corner) (given_nearest (os t) (length (pair t)) (nearest_of w))
 
 -- the worst so far: its gap, if there is one
-abbrev pub given_worst : Pair → Orientations → WorstSoFar → WorstSoFar
+abbrev pub given_worst : Pair → Orientations → Option CornerGap → Option CornerGap
 given_worst pair os None = None
-given_worst pair os (Worst w) = Worst (given_gap pair os w)
+given_worst pair os (Some w) = Some (given_gap pair os w)
 
 -- a spent report: its support corners, each with the number in its own list, and the worst so far
 abbrev pub given_spent : Pair → Orientations → Spent → Spent

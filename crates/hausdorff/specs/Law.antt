@@ -1,6 +1,6 @@
 -- Rule 6.4: the one law about what comparing returns for two accepted outlines (`IsComparison` asks that they are) and
 -- any allowance. It determines the report (`law-unique` in `proofs/Law.antt`).
-use Rattle.std.specs.Prelude.{ℕ, ◌<◌, ◌≤◌, ◌≡◌}
+use Rattle.std.specs.Prelude.{ℕ, ◌<◌, ◌≤◌, ◌≡◌, Option, None, Some}
 use Rattle.integers.specs.declared.fraction.Fraction.{Fraction}
 use Rattle.integers.specs.Fraction.{NotGreater}
 use Rattle.integers.specs.Root.{CeilingRoot}
@@ -10,8 +10,6 @@ use Rattle.outline.specs.declared.Side.{Side}
 use Rattle.outline.specs.declared.Side.TheVariants.{A, B}
 use Rattle.nearest.specs.Feature.{within_values}
 use Rattle.hausdorff.specs.declared.CornerGap.{CornerGap}
-use Rattle.hausdorff.specs.declared.WorstSoFar.{WorstSoFar}
-use Rattle.hausdorff.specs.declared.WorstSoFar.TheVariants.{None, Worst}
 use Rattle.hausdorff.specs.declared.Spent.{Spent}
 use Rattle.hausdorff.specs.declared.Done.{Done}
 use Rattle.hausdorff.specs.declared.Report.{Report}
@@ -24,22 +22,22 @@ use Rattle.hausdorff.specs.Support.{support_after}
 use Rattle.hausdorff.specs.Counted.{IsWorst, IsSideWorst}
 
 -- rule 6.3, the worst so far or, if it is none, corner 0 of a side, which is at `first`, within
-abbrev pub or_within : Side → Corner → WorstSoFar → CornerGap
+abbrev pub or_within : Side → Corner → Option CornerGap → CornerGap
 or_within s first None = with_corner s 0 (within_values first)
-or_within s first (Worst w) = w
+or_within s first (Some w) = w
 
 -- rule 4.6, the clearance of a gap: the smallest whole number whose square is not below it
 abbrev pub IsClearance : Fraction → ℕ → Type 0
 IsClearance g m = CeilingRoot g m
 
 -- rule 6.2, what holds of the worst so far of a side in a spent report
-pub record OfSpentSide (pair : Pair) (os : Orientations) (allowance : ℕ) (s : Side) (x : WorstSoFar) : Type 0 where
+pub record OfSpentSide (pair : Pair) (os : Orientations) (allowance : ℕ) (s : Side) (x : Option CornerGap) : Type 0 where
   -- it is the worst so far of the side after the allowance of steps
   pub worst : IsSideWorst pair os allowance s x
   -- the side has an answer, which the exhaustive search finds; its gap is the side's true figure, and the gap of the
   -- worst so far is never above it
   pub figure : IsSideAnswer pair os s (exhaustive_of pair os s)
-  pub worst_not_above : (w z : CornerGap) → x ≡ Worst w → IsSideAnswer pair os s z → NotGreater w.gap z.gap
+  pub worst_not_above : (w z : CornerGap) → x ≡ Some w → IsSideAnswer pair os s z → NotGreater w.gap z.gap
 
 -- rule 6.2, what holds of a spent report
 pub record OfSpent (pair : Pair) (os : Orientations) (allowance : ℕ) (p : Spent) : Type 0 where
@@ -50,7 +48,7 @@ pub record OfSpent (pair : Pair) (os : Orientations) (allowance : ℕ) (p : Spen
   pub worst : IsWorst pair os allowance p.worst
   -- there is a true figure, the gap that the exhaustive search finds, and the gap of the worst so far is never above it
   pub figure : TrueFigure pair (exhaustive pair os).gap
-  pub worst_not_above : (w : CornerGap) (g : Fraction) → p.worst ≡ Worst w → TrueFigure pair g → NotGreater w.gap g
+  pub worst_not_above : (w : CornerGap) (g : Fraction) → p.worst ≡ Some w → TrueFigure pair g → NotGreater w.gap g
   -- the worst so far of each side; and the worst so far is the worse of the two
   pub side_a : OfSpentSide pair os allowance A p.sides.a
   pub side_b : OfSpentSide pair os allowance B p.sides.b
@@ -59,7 +57,7 @@ pub record OfSpent (pair : Pair) (os : Orientations) (allowance : ℕ) (p : Spen
 -- rule 6.3, what holds of the answer of a side in a done report
 pub record OfDoneSide (pair : Pair) (os : Orientations) (s : Side) (w : CornerGap) : Type 0 where
   -- it is the worst so far of the side after N steps, or the side's corner 0, within, if that is none
-  pub from_steps : (x : WorstSoFar) × IsSideWorst pair os (step_count pair) s x × (w ≡ or_within s (corner (pair s) 0) x)
+  pub from_steps : (x : Option CornerGap) × IsSideWorst pair os (step_count pair) s x × (w ≡ or_within s (corner (pair s) 0) x)
   -- it is the answer of the side as defined, and the one that the exhaustive search finds for the side
   pub as_defined : IsSideAnswer pair os s w
   pub as_searched : w ≡ exhaustive_of pair os s
@@ -70,7 +68,7 @@ pub record OfDoneSide (pair : Pair) (os : Orientations) (s : Side) (w : CornerGa
 pub record OfDone (pair : Pair) (os : Orientations) (d : Done) : Type 0 where
   -- the steps made are N, and the answer is the worst so far after them, or A's corner 0, within, if that is none
   pub steps : d.steps ≡ step_count pair
-  pub from_steps : (x : WorstSoFar) × IsWorst pair os (step_count pair) x × (d.answer ≡ or_within A (corner (pair A) 0) x)
+  pub from_steps : (x : Option CornerGap) × IsWorst pair os (step_count pair) x × (d.answer ≡ or_within A (corner (pair A) 0) x)
   -- it is the answer as defined, with the true nearest point of its corner, and the one that the exhaustive search
   -- finds
   pub as_defined : IsAnswer pair os d.answer

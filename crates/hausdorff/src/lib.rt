@@ -2,12 +2,16 @@
 // distance, and `proofs/` shows that the steps find it (`proofs/Law.antt`).
 #![tactic(auto)]
 
+ghost use Rattle.std.specs.Prelude.{◌≡◌};
+ghost use Rattle.hausdorff.specs.Sides.{at_side};
+
 use integers::fraction::Fraction;
 use nearest::Feature;
-use outline::{Orientation, Refusal, Side};
+use outline::Side;
 use plane::Point;
 
-// A corner of one outline with its gap to the other: side, corner, nearest feature, gap and nearest point.
+// A corner of one outline with its gap to the other: side, corner, nearest feature, gap and nearest point. The worst so
+// far is one, or none yet.
 #[derive(Clone, Copy)]
 pub struct CornerGap {
     pub side: Side,
@@ -17,32 +21,23 @@ pub struct CornerGap {
     pub point: Point,
 }
 
-// The worst so far, or none.
+// What there is of each side.
 #[derive(Clone, Copy)]
-pub enum WorstSoFar {
-    None,
-    Worst(CornerGap),
+pub struct Sides<T> {
+    pub a: T,
+    pub b: T,
 }
 
-// The worst so far of each side, or none.
-#[derive(Clone, Copy)]
-pub struct SideWorsts {
-    pub a: WorstSoFar,
-    pub b: WorstSoFar,
-}
-
-// The answer of each side.
-#[derive(Clone, Copy)]
-pub struct SideAnswers {
-    pub a: CornerGap,
-    pub b: CornerGap,
-}
-
-// The support corners, one of each outline.
-#[derive(Clone, Copy)]
-pub struct SupportCorners {
-    pub a: usize,
-    pub b: usize,
+impl<T: Copy> Sides<T> {
+    // What there is of one side.
+    pub fn at_side(self, side: Side) -> T
+        ensures { result ≡ at_side self side }
+    {
+        match side {
+            Side::A => self.a,
+            Side::B => self.b,
+        }
+    }
 }
 
 // Rule 6.2: the allowance was below N, the number of edges of both. The steps made, the support corners, the worst so
@@ -50,9 +45,9 @@ pub struct SupportCorners {
 #[derive(Clone, Copy)]
 pub struct Spent {
     pub steps: u32,
-    pub support: SupportCorners,
-    pub worst: WorstSoFar,
-    pub sides: SideWorsts,
+    pub support: Sides<usize>,
+    pub worst: Option<CornerGap>,
+    pub sides: Sides<Option<CornerGap>>,
 }
 
 // Rule 6.3: all steps were made. Their number, the answer, its clearance and the answer of each side.
@@ -61,7 +56,7 @@ pub struct Done {
     pub steps: u32,
     pub answer: CornerGap,
     pub clearance: u64,
-    pub sides: SideAnswers,
+    pub sides: Sides<CornerGap>,
 }
 
 // What comparing two accepted outlines reports.
@@ -69,18 +64,4 @@ pub struct Done {
 pub enum Report {
     Spent(Spent),
     Done(Done),
-}
-
-// What the checks of two lists find: the orientation of A's list and of B's, or the first refusal.
-#[derive(Clone, Copy)]
-pub enum PairVerdict {
-    Taken(Orientation, Orientation),
-    Refused(Refusal),
-}
-
-// What comparing two lists gives. Being spent is no refusal.
-#[derive(Clone, Copy)]
-pub enum Comparison {
-    Refused(Refusal),
-    Reported(Report),
 }

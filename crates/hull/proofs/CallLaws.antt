@@ -29,13 +29,13 @@ use lib.Dec.{eqb}
 use lib.IntN.{ℤ, pos}
 use lib.ListN.{length, get_or}
 use lib.Signed.{<ℤ_irrefl}
+use Rattle.std.specs.Prelude.{None, Result, Ok, Err}
 use Rattle.integers.proofs.Reflect.{test-not, test-or, test-eqb, test-ltb, test-stable}
 use Rattle.plane.specs.declared.Corner.{Corner}
 use Rattle.plane.specs.Vector.{coordinates}
+use Rattle.outline.specs.code.Checks.{Verdict}
 use Rattle.outline.specs.declared.Place.TheVariants.{Nowhere}
 use Rattle.outline.specs.declared.Refusal.{Refusal}
-use Rattle.outline.specs.declared.RefusedSide.TheVariants.{NoSide}
-use Rattle.outline.specs.declared.Verdict.{Verdict}
 use Rattle.outline.specs.code.Polygon.{Polygon}
 use Rattle.outline.specs.Conditions.{AcceptedList}
 use Rattle.outline.specs.Corners.{corners, fewest, most}
@@ -47,8 +47,6 @@ use Rattle.outline.proofs.ConditionLaws.{decide-append, none-append, test-decide
 use Rattle.outline.proofs.CornersLaws.{corners-coordinates, length-coordinates}
 use Rattle.outline.proofs.EdgeLaws.{accepted-polygon, corner-number}
 use Rattle.outline.proofs.LeftTurns.{convex-turns}
-use Rattle.hull.specs.declared.HullAnswer.{HullAnswer}
-use Rattle.hull.specs.declared.HullAnswer.TheVariants.{Made, Refused}
 use Rattle.hull.specs.Call.{wrong_lengths, InLine, no_outline, point_conditions, hull_conditions, PermittedPoints, filled_up}
 use Rattle.hull.specs.Call.{IsHullAnswer, refused, made}
 use Rattle.hull.specs.Hull.{IsHull}
@@ -69,19 +67,19 @@ module _ (s : List ℤ) (room mark-room : ℕ) where
 
   lengths-decides : Decides (check_lengths s room mark-room) (wrong_lengths s room mark-room)
   lengths-decides =
-      test-decides _ NoSide _ (test-or _ _ (test-not (eqb room (length s)) (test-eqb room (length s)))
+      test-decides _ None _ (test-or _ _ (test-not (eqb room (length s)) (test-eqb room (length s)))
       (test-not (eqb mark-room (length ps)) (test-eqb mark-room (length ps))))
 
   outline-decides : Decides (check_outline s) (no_outline ps)
   outline-decides =
-      test-decides _ NoSide _ (Iff.trans (test-ltb (length (convex_hull ps)) fewest) (Iff.trans (hull-short-iff ps)
+      test-decides _ None _ (Iff.trans (test-ltb (length (convex_hull ps)) fewest) (Iff.trans (hull-short-iff ps)
       (inr, ⊎_elim (λ none i j k below. absurd (omega arith)) (λ line. line))))
 
   points-decide : AllDecide (point_checks s room mark-room) (point_conditions s room mark-room)
   points-decide =
-      test-decides _ NoSide _ (test-eqb (length s % 2) 1)
-      and test-decides _ NoSide _ (test-ltb most (length ps))
-      and range-decides ps NoSide
+      test-decides _ None _ (test-eqb (length s % 2) 1)
+      and test-decides _ None _ (test-ltb most (length ps))
+      and range-decides ps None
       and lengths-decides
       and tt
 
@@ -95,7 +93,7 @@ module _ (s : List ℤ) (room mark-room : ℕ) where
           record {
             even = omega arith;
             at_most = omega arith;
-            all_in_range = (range-taken ps NoSide).0 ((decides-taken (range-decides ps NoSide)).1 none_out);
+            all_in_range = (range-taken ps None).0 ((decides-taken (range-decides ps None)).1 none_out);
             long = test-stable (eqb room (length s)) (test-eqb room (length s)) (λ not. not-other (Nowhere, (refl, inl not)));
             marks_long = test-stable (eqb mark-room (length ps)) (test-eqb mark-room (length ps))
                 (λ not. not-other (Nowhere, (refl, inr not)));
@@ -105,11 +103,11 @@ module _ (s : List ℤ) (room mark-room : ℕ) where
       back may =
           nowhere-plain (λ odd. omega (arith, may.even))
           and nowhere-plain (λ many. omega (arith, may.at_most))
-          and (decides-taken (range-decides ps NoSide)).0 ((range-taken ps NoSide).1 may.all_in_range)
+          and (decides-taken (range-decides ps None)).0 ((range-taken ps None).1 may.all_in_range)
           and nowhere-plain (⊎_elim (λ other. other may.long) (λ other. other may.marks_long))
           and tt
 
-  pub points-taken : (check_points s room mark-room ≡ Verdict.Taken) ↔ PermittedPoints s room mark-room
+  pub points-taken : (check_points s room mark-room ≡ Ok tt) ↔ PermittedPoints s room mark-room
   unfolding check_points
   points-taken = Iff.trans (first_taken (point_checks s room mark-room) (point_conditions s room mark-room) points-decide) points_none
 
@@ -118,7 +116,7 @@ module _ (s : List ℤ) (room mark-room : ℕ) where
       decide-append (point_checks s room mark-room) (check_outline s ∷ []) (point_conditions s room mark-room) (no_outline ps ∷ [])
       points-decide (outline-decides and tt)
 
-  pub hull-refused : (r : Refusal) → (check_hull s room mark-room ≡ Verdict.Refused r) ↔ FirstFault (hull_conditions s room mark-room) r
+  pub hull-refused : (r : Refusal) → (check_hull s room mark-room ≡ Err r) ↔ FirstFault (hull_conditions s room mark-room) r
   unfolding check_hull
   hull-refused = first-refused (hull_checks s room mark-room) (hull_conditions s room mark-room) decide
 
@@ -129,7 +127,7 @@ module _ (s : List ℤ) (room mark-room : ℕ) where
     λ apart. nowhere-plain (⊎_elim (λ none. apart (λ i j k below. absurd (omega arith))) apart),
   )
 
-  pub hull-taken : (check_hull s room mark-room ≡ Verdict.Taken) ↔ (PermittedPoints s room mark-room × (¬ InLine ps))
+  pub hull-taken : (check_hull s room mark-room ≡ Ok tt) ↔ (PermittedPoints s room mark-room × (¬ InLine ps))
   unfolding check_hull
   hull-taken =
       Iff.trans (first_taken (hull_checks s room mark-room) (hull_conditions s room mark-room) decide)
@@ -142,7 +140,7 @@ module _ (s : List ℤ) (room mark-room : ℕ) where
   pub permitted-hull : PermittedPoints s room mark-room → ¬ InLine ps → IsHull ps (convex_hull ps)
   permitted-hull may apart = hull-is ps apart may.at_most may.all_in_range
 
-  pub hull-accepted : check_hull s room mark-room ≡ Verdict.Taken → AcceptedList (coordinates (convex_hull ps))
+  pub hull-accepted : check_hull s room mark-room ≡ Ok tt → AcceptedList (coordinates (convex_hull ps))
   hull-accepted takes =
       let (may, apart) = hull-taken.0 takes in (coordinates-accepted (convex_hull ps)).1 (permitted-hull may apart).accepted
 
@@ -158,14 +156,14 @@ module _ (s out ms : List ℤ) where
   is-hull-answer = go verdict refl
     where
       go : (v : Verdict) → verdict ≡ v → IsHullAnswer s out ms (hull_answer s out ms) (hull_list s out ms) (hull_marks s out ms)
-      go (Verdict.Refused r) is =
+      go (Err r) is =
           refused r ((hull-refused s (length out) (length ms) r).0 is) (ap (answer_for s) is) (rw is) (rw is)
-      go Verdict.Taken is =
+      go (Ok _) is =
           let (may, apart) = (hull-taken s (length out) (length ms)).0 is in
           made may apart (convex_hull points) (permitted-hull s (length out) (length ms) may apart) (ap (answer_for s) is) (rw is)
           (rw is (marks-are points (convex_hull points)))
 
-  pub hull_answer-unique : {answer : HullAnswer} {out-after marks-after : List ℤ}
+  pub hull_answer-unique : {answer : Result ℕ Refusal} {out-after marks-after : List ℤ}
       → IsHullAnswer s out ms answer out-after marks-after
       → (answer ≡ hull_answer s out ms) × ((out-after ≡ hull_list s out ms) × (marks-after ≡ hull_marks s out ms))
   hull_answer-unique (refused r fault is kept marks-kept) =
@@ -175,46 +173,46 @@ module _ (s out ms : List ℤ) where
       let takes = (hull-taken s (length out) (length ms)).1 (may, apart) in
       let same : hs ≡ convex_hull points = hull-unique hull (permitted-hull s (length out) (length ms) may apart) in
       let ms-are = marks-unique points hs (accepted-polygon hull.accepted) are in (
-        is ∙ ap (λ (gs : List Corner). Made (length gs)) same ∙ sym (ap (answer_for s) takes),
+        is ∙ ap (λ (gs : List Corner). Ok (length gs)) same ∙ sym (ap (answer_for s) takes),
         (
           written ∙ ap (λ (gs : List Corner). filled_up (length s) (coordinates gs)) same ∙ rw takes,
           ms-are ∙ ap (λ (gs : List Corner). marks points gs) same ∙ rw takes,
         ),
       )
 
-  pub hull-refuses : (r : Refusal) → (hull_answer s out ms ≡ Refused r) ↔ FirstFault (hull_conditions s (length out) (length ms)) r
+  pub hull-refuses : (r : Refusal) → (hull_answer s out ms ≡ Err r) ↔ FirstFault (hull_conditions s (length out) (length ms)) r
   hull-refuses r = Iff.trans (by-verdict verdict) (hull-refused s (length out) (length ms) r)
     where
-      by-verdict : (v : Verdict) → (answer_for s v ≡ Refused r) ↔ (v ≡ Verdict.Refused r)
-      by-verdict Verdict.Taken = (λ e. cc, λ e. cc)
-      by-verdict (Verdict.Refused q) = (λ e. cc, λ e. cc)
+      by-verdict : (v : Verdict) → (answer_for s v ≡ Err r) ↔ (v ≡ Err r)
+      by-verdict (Ok _) = (λ e. cc, λ e. cc)
+      by-verdict (Err q) = (λ e. cc, λ e. cc)
 
-  pub hull-promises : {answer : HullAnswer} {out-after marks-after : List ℤ} → answer ≡ hull_answer s out ms
+  pub hull-promises : {answer : Result ℕ Refusal} {out-after marks-after : List ℤ} → answer ≡ hull_answer s out ms
       → out-after ≡ hull_list s out ms → marks-after ≡ hull_marks s out ms
       → (answer ≡ hull_answer s out ms) × ((out-after ≡ hull_list s out ms) × ((marks-after ≡ hull_marks s out ms)
       × IsHullAnswer s out ms answer out-after marks-after))
   hull-promises is written marked = (is, (written, (marked, rw (is, written, marked) is-hull-answer)))
 
   -- what a refused call and one that is taken promise
-  pub refused-promises : {r : Refusal} → verdict ≡ Verdict.Refused r
-      → (Refused r ≡ hull_answer s out ms) × ((out ≡ hull_list s out ms) × ((ms ≡ hull_marks s out ms)
-      × IsHullAnswer s out ms (Refused r) out ms))
+  pub refused-promises : {r : Refusal} → verdict ≡ Err r
+      → (Err r ≡ hull_answer s out ms) × ((out ≡ hull_list s out ms) × ((ms ≡ hull_marks s out ms)
+      × IsHullAnswer s out ms (Err r) out ms))
   refused-promises is = hull-promises (sym (ap (answer_for s) is)) (rw is) (rw is)
 
-  pub made-promises : {n : ℕ} {out-after marks-after : List ℤ} → verdict ≡ Verdict.Taken → n ≡ length (convex_hull points)
+  pub made-promises : {n : ℕ} {out-after marks-after : List ℤ} → verdict ≡ Ok tt → n ≡ length (convex_hull points)
       → out-after ≡ filled_up (length s) (coordinates (convex_hull points)) → marks-after ≡ marks points (convex_hull points)
-      → (Made n ≡ hull_answer s out ms) × ((out-after ≡ hull_list s out ms) × ((marks-after ≡ hull_marks s out ms)
-      × IsHullAnswer s out ms (Made n) out-after marks-after))
+      → (Ok n ≡ hull_answer s out ms) × ((out-after ≡ hull_list s out ms) × ((marks-after ≡ hull_marks s out ms)
+      × IsHullAnswer s out ms (Ok n) out-after marks-after))
   made-promises is counts written marked =
-      hull-promises (ap Made counts ∙ sym (ap (answer_for s) is)) (written ∙ rw is) (marked ∙ rw is)
+      hull-promises (ap Ok counts ∙ sym (ap (answer_for s) is)) (written ∙ rw is) (marked ∙ rw is)
 
 -- ---- by what the checks 1, 3, 4 and 9 give
 module _ (s : List ℤ) (room mark-room : ℕ) {v : Verdict} (found : v ≡ check_points s room mark-room) where
-  pub points-refused : {r : Refusal} → v ≡ Verdict.Refused r → check_hull s room mark-room ≡ Verdict.Refused r
+  pub points-refused : {r : Refusal} → v ≡ Err r → check_hull s room mark-room ≡ Err r
   unfolding check_hull check_points
   points-refused is = append-stops (point_checks s room mark-room) (check_outline s ∷ []) (sym found ∙ is)
 
-  module _ (takes : v ≡ Verdict.Taken) where
+  module _ (takes : v ≡ Ok tt) where
     by_count : check_hull s room mark-room ≡ check_outline s
     unfolding check_hull check_points
     by_count =
@@ -222,10 +220,10 @@ module _ (s : List ℤ) (room mark-room : ℕ) {v : Verdict} (found : v ≡ chec
         ∙ sym (first-last (check_outline s) refl)
 
     pub points-short : {n : ℕ} → n ≡ length (convex_hull (corners s)) → n < fewest
-        → check_hull s room mark-room ≡ Verdict.Refused (refusal (no_outline (corners s)) Nowhere)
+        → check_hull s room mark-room ≡ Err (refusal (no_outline (corners s)) Nowhere)
     points-short {n} is few = by_count ∙ rw (← is, lt-ltb n fewest few)
 
-    pub points-made : {n : ℕ} → n ≡ length (convex_hull (corners s)) → fewest ≤ n → check_hull s room mark-room ≡ Verdict.Taken
+    pub points-made : {n : ℕ} → n ≡ length (convex_hull (corners s)) → fewest ≤ n → check_hull s room mark-room ≡ Ok tt
     points-made {n} is enough = by_count ∙ rw (← is, le-ltb n fewest enough)
 
     pub points-permit : PermittedPoints s room mark-room
@@ -250,7 +248,7 @@ module _ {s t : List ℤ} {room mark-room room' mark-room' : ℕ} where
 
 -- of whatever has the call's promises
 pub order-answer : {s out ms t out' ms' : List ℤ} {n k : ℕ} {o m o' m' : List ℤ}
-    → IsHullAnswer s out ms (Made n) o m → IsHullAnswer t out' ms' (Made k) o' m'
+    → IsHullAnswer s out ms (Ok n) o m → IsHullAnswer t out' ms' (Ok k) o' m'
     → Among (corners s) (corners t) → Among (corners t) (corners s) → (n ≡ k) × (length s ≡ length t → o ≡ o')
 order-answer (refused _ _ is _ _) two there back = absurd (let z : ◌≡◌ {A = ℕ} 0 1 = cc in omega arith)
 order-answer (made _ _ _ _ _ _ _) (refused _ _ is _ _) there back = absurd (let z : ◌≡◌ {A = ℕ} 0 1 = cc in omega arith)
@@ -260,7 +258,7 @@ order-answer {t} {n} {k} (made may apart hs hull is written _) (made may' apart'
     (count ∙ ap length same ∙ sym count', λ long. written ∙ (rw (long, same)) ∙ sym written')
 
 -- a count is at most 256
-pub count-at-most : {s out ms : List ℤ} {n : ℕ} {o m : List ℤ} → IsHullAnswer s out ms (Made n) o m → n ≤ most
+pub count-at-most : {s out ms : List ℤ} {n : ℕ} {o m : List ℤ} → IsHullAnswer s out ms (Ok n) o m → n ≤ most
 count-at-most (refused _ _ is _ _) = absurd (let z : ◌≡◌ {A = ℕ} 0 1 = cc in omega arith)
 count-at-most {n} (made _ _ hs hull is _ _) = let count : n ≡ length hs = cc in omega (arith, hull.accepted.at_most)
 
@@ -291,7 +289,7 @@ module _ {ps hs : List Corner} (hull : IsHull ps hs) where
     abbrev list : List ℤ
     list = coordinates hs
 
-    again-taken : check_hull list (length out) (length ms) ≡ Verdict.Taken
+    again-taken : check_hull list (length out) (length ms) ≡ Ok tt
     again-taken =
         (hull-taken list (length out) (length ms)).1 (
           record {
@@ -304,7 +302,7 @@ module _ {ps hs : List Corner} (hull : IsHull ps hs) where
           rw (corners-coordinates hs) (polygon-apart polygon),
         )
 
-    pub again-answer : (hull_answer list out ms ≡ Made (length hs)) × ((hull_list list out ms ≡ list) × (hull_marks list out ms ≡ marks hs hs))
+    pub again-answer : (hull_answer list out ms ≡ Ok (length hs)) × ((hull_list list out ms ≡ list) × (hull_marks list out ms ≡ marks hs hs))
     again-answer =
         rw (again-taken, corners-coordinates hs, again-hull)
         (refl, (filled-whole (length list) list refl, refl))

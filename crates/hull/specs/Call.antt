@@ -1,26 +1,20 @@
 -- Rule 7.10: the convex hull of the points that a list s gives, with its corners written to a list of length `room`, and
 -- a mark for every point to one of length `mark-room`.
-use Rattle.std.specs.Prelude.{ℕ, ◌-◌, ◌%◌, ◌≤◌, ◌<◌, ◌≡◌, ◌≢◌, ◌⊎◌, List, [], ◌∷◌, ◌++◌, ℤ, pos, length, replicate}
+use Rattle.std.specs.Prelude.{ℕ, ◌-◌, ◌%◌, ◌≤◌, ◌<◌, ◌≡◌, ◌≢◌, ◌⊎◌, List, [], ◌∷◌, ◌++◌, ℤ, pos, length, replicate, None, Result, Ok, Err}
+use Rattle.outline.specs.declared.Fault.TheVariants.{TooFew, WrongLength}
 use Rattle.plane.specs.declared.Corner.{Corner}
 use Rattle.plane.specs.Vector.{side, coordinates}
 use Rattle.outline.specs.declared.Refusal.{Refusal}
-use Rattle.outline.specs.declared.RefusedSide.TheVariants.{NoSide}
 use Rattle.outline.specs.Conditions.{odd_length, too_many, out_of_range}
 use Rattle.outline.specs.Convex.{AllInRange}
 use Rattle.outline.specs.Corners.{corners, corner, most}
-use Rattle.outline.specs.Refusal.{Condition, without_place, FirstFault}
-use Rattle.hull.specs.declared.HullAnswer.{HullAnswer}
-use Rattle.hull.specs.declared.HullAnswer.TheVariants.{Made, Refused}
+use Rattle.outline.specs.Refusal.{condition, Condition, without_place, FirstFault}
 use Rattle.hull.specs.Hull.{IsHull}
 use Rattle.hull.specs.Marks.{AreMarks}
 
 -- 9, the list for the corners is not as long as the list of points, or the one for the marks has not one place for each
 abbrev pub wrong_lengths : List ℤ → ℕ → ℕ → Condition
-wrong_lengths s room mark-room = record {
-  number = 9;
-  side = NoSide;
-  applies = without_place ((room ≢ length s) ⊎ (mark-room ≢ length (corners s)));
-}
+wrong_lengths s room mark-room = condition WrongLength None (without_place ((room ≢ length s) ⊎ (mark-room ≢ length (corners s))))
 
 -- all points lie in one line: any three of them have side number 0. One or two points always do, and none
 abbrev pub InLine : List Corner → Type 0
@@ -29,14 +23,14 @@ InLine ps =
 
 -- 2, there are no points, or all lie in one line
 abbrev pub no_outline : List Corner → Condition
-no_outline ps = record { number = 2; side = NoSide; applies = without_place ((length ps ≡ 0) ⊎ InLine ps) }
+no_outline ps = condition TooFew None (without_place ((length ps ≡ 0) ⊎ InLine ps))
 
 -- of the points and of the lists to write: 1, 3 and 4 of the list s, then 9
 abbrev pub point_conditions : List ℤ → ℕ → ℕ → List Condition
 point_conditions s room mark-room =
-    odd_length NoSide s
-    ∷ too_many NoSide (corners s)
-    ∷ out_of_range NoSide (corners s)
+    odd_length None s
+    ∷ too_many None (corners s)
+    ∷ out_of_range None (corners s)
     ∷ wrong_lengths s room mark-room
     ∷ []
 
@@ -61,11 +55,11 @@ filled_up n zs = zs ++ replicate (n - length zs) (pos 0)
 -- the lists to write hold `out` and `marks` before the call
 module _ (s out marks : List ℤ) where
   -- `answer` is what the call gives, and `out-after` and `marks-after` what the lists hold then
-  pub data IsHullAnswer (answer : HullAnswer) (out-after marks-after : List ℤ) : Type 0 where
+  pub data IsHullAnswer (answer : Result ℕ Refusal) (out-after marks-after : List ℤ) : Type 0 where
     -- the refusal of the first condition that applies, and both lists are as they were
     refused : (r : Refusal) → FirstFault (hull_conditions s (length out) (length marks)) r
-        → answer ≡ Refused r → out-after ≡ out → marks-after ≡ marks → IsHullAnswer answer out-after marks-after
+        → answer ≡ Err r → out-after ≡ out → marks-after ≡ marks → IsHullAnswer answer out-after marks-after
     -- otherwise the corner count; the corners in their order and then zeros; and the marks
     made : PermittedPoints s (length out) (length marks) → ¬ InLine (corners s) → (hs : List Corner) → IsHull (corners s) hs
-        → answer ≡ Made (length hs) → out-after ≡ filled_up (length s) (coordinates hs)
+        → answer ≡ Ok (length hs) → out-after ≡ filled_up (length s) (coordinates hs)
         → AreMarks (corners s) hs marks-after → IsHullAnswer answer out-after marks-after

@@ -5,45 +5,34 @@
 // to be printed.
 #![tactic(auto)]
 
-ghost use Rattle.std.specs.Prelude.{◌≤◌};
-
-use case_input::LONGEST;
-use case_lines::edits::{print_coordinates, print_edit};
-use case_lines::status::print_status;
-use outline::Verdict;
+use case_input::{Cursor, LONGEST};
+use case_lines::FILL;
+use case_lines::edits::print_edit;
+use case_lines::status::print_call;
 use plane::Corner;
 use std::io;
 
-// What stands at every place of a list to write before a call.
-const FILL: i32 = 77;
-
-// The numbers of a case beside its list, and the place in the input after them. The place of the corner is there in two
-// parts. `back_length` is the length of the list that the second of two calls is to write.
+// The numbers of a case beside its list. The place of the corner is there in two parts. `back_length` is the length of the
+// list that the second of two calls is to write.
 #[derive(Clone, Copy)]
 struct Given {
     place: usize,
     v: Corner,
-    out_length: u32,
-    back_length: u32,
-    next: usize,
+    out_length: usize,
+    back_length: usize,
 }
 
-fn read_given(s: &[u8], from: usize) -> Given {
-    let place_high = case_input::read_number(s, from);
-    let place_low = case_input::read_number(s, place_high.next);
-    let x = case_input::read_number(s, place_low.next);
-    let y = case_input::read_number(s, x.next);
-    let out_length = case_input::read_number(s, y.next);
-    let back_length = case_input::read_number(s, out_length.next);
-    Given {
-        place: place_high.size as usize * 4294967296 + place_low.size as usize,
-        v: Corner {
-            x: case_input::value(x),
-            y: case_input::value(y),
-        },
-        out_length: out_length.size,
-        back_length: back_length.size,
-        next: back_length.next,
+impl Given {
+    fn read(case: &mut Cursor) -> Self {
+        Given {
+            place: case.wide(),
+            v: Corner {
+                x: case.signed(),
+                y: case.signed(),
+            },
+            out_length: case.natural() as usize,
+            back_length: case.natural() as usize,
+        }
     }
 }
 
@@ -56,72 +45,48 @@ fn insert(
     out: &mut [i32],
 ) -> io::Result<bool> {
     let verdict = calls::insert_corner(a, place, v, out);
-    print_edit(rt, b"insert", verdict, &out[..])?;
-    match verdict {
-        Verdict::Taken => Ok(true),
-        Verdict::Refused(_) => Ok(false),
-    }
+    print_edit(rt, b"insert", verdict, out)?;
+    Ok(verdict.is_ok())
 }
 
-fn c_insert(
-    rt: &impl Print,
-    a: &[i32],
-    place: usize,
-    v: Corner,
-    out: &mut [i32],
-) -> io::Result<()> {
-    let returned = ravinebowl::ravinebowl_insert_corner(a, place, v.x, v.y, out);
-    print_status(rt, b"c_insert", returned)?;
-    print_coordinates(rt, &out[..])
+fn c_insert(rt: &impl Print, a: &[i32], given: Given) -> io::Result<()> {
+    let v = given.v;
+    print_call(
+        rt,
+        b"c_insert",
+        &mut [FILL; LONGEST],
+        given.out_length,
+        |out| { ravinebowl::ravinebowl_insert_corner(a, given.place, v.x, v.y, out) },
+    )
+}
+
+// Removes what was inserted.
+fn insert_remove(rt: &impl Print, a: &[i32], given: Given) -> io::Result<()> {
+    let mut room = [FILL; LONGEST];
+    let back = &mut room[..given.back_length.min(LONGEST)];
+    let verdict = calls::remove_corner(a, given.place, back);
+    print_edit(rt, b"insert_remove", verdict, back)
 }
 
 // Inserts, both ways, and removes what was inserted.
-fn insert_remove(
-    rt: &impl Print,
-    a: &[i32],
-    place: usize,
-    v: Corner,
-    out: &mut [i32],
-    c_out: &mut [i32],
-    back: &mut [i32],
-) -> io::Result<()> {
-    let is_inserted = insert(rt, a, place, v, out)?;
-    c_insert(rt, a, place, v, c_out)?;
-    if !is_inserted {
-        return print::text(rt, b"insert_remove none\n");
-    }
-    let verdict = calls::remove_corner(&out[..], place, back);
-    print_edit(rt, b"insert_remove", verdict, &back[..])
-}
-
-// The lines of inserting.
 fn answer_insert(rt: &impl Print, a: &[i32], given: Given) -> io::Result<()> {
-    let v = given.v;
-    let length = case_input::at_most(LONGEST, given.out_length);
-    let back_length = case_input::at_most(LONGEST, given.back_length);
-    let mut out = [FILL; LONGEST];
-    let mut c_out = [FILL; LONGEST];
-    let mut back = [FILL; LONGEST];
-    insert_remove(
-        rt,
-        a,
-        given.place,
-        v,
-        &mut out[..length],
-        &mut c_out[..length],
-        &mut back[..back_length],
-    )
+    let mut room = [FILL; LONGEST];
+    let out = &mut room[..given.out_length.min(LONGEST)];
+    let is_inserted = insert(rt, a, given.place, given.v, out)?;
+    c_insert(rt, a, given)?;
+    if is_inserted {
+        insert_remove(rt, out, given)
+    } else {
+        println!(rt; "insert_remove none")
+    }
 }
 
 // The corner of a list with a number, or (0, 0).
 fn corner_at(a: &[i32], i: usize) -> Corner {
-    if i < a.len() / 2 {
-        return Corner {
-            x: a[2 * i],
-            y: a[2 * i + 1],
-        };
+    match a.chunks_exact(2).nth(i) {
+        Some([x, y]) => Corner { x: *x, y: *y },
+        _ => Corner { x: 0, y: 0 },
     }
-    Corner { x: 0, y: 0 }
 }
 
 // Removes a corner, and inserts it again.
@@ -134,70 +99,34 @@ fn remove_insert(
 ) -> io::Result<()> {
     let v = corner_at(a, place);
     match calls::remove_corner(a, place, out) {
-        Verdict::Refused(_) => print::text(rt, b"remove_insert none\n"),
-        Verdict::Taken => {
-            let verdict = calls::insert_corner(&out[..], place, v, back);
-            print_edit(rt, b"remove_insert", verdict, &back[..])
+        Err(_) => println!(rt; "remove_insert none"),
+        Ok(()) => {
+            let verdict = calls::insert_corner(out, place, v, back);
+            print_edit(rt, b"remove_insert", verdict, back)
         }
     }
 }
 
-// The length of a list without a corner.
-fn rest_length(length: usize) -> usize
-    ensures { result ≤ 520 }
-{
-    if length < 2 {
-        return 0;
-    }
-    if LONGEST < length {
-        return LONGEST;
-    }
-    length - 2
-}
-
 // The line of removing. The list for what remains is just as long as that.
 fn answer_remove(rt: &impl Print, a: &[i32], given: Given) -> io::Result<()> {
-    let length = rest_length(a.len());
-    let back_length = case_input::at_most(LONGEST, given.back_length);
-    let mut out = [FILL; LONGEST];
-    let mut back = [FILL; LONGEST];
-    remove_insert(
-        rt,
-        a,
-        given.place,
-        &mut out[..length],
-        &mut back[..back_length],
-    )
+    let mut out_room = [FILL; LONGEST];
+    let mut back_room = [FILL; LONGEST];
+    let out = &mut out_room[..a.len().saturating_sub(2).min(LONGEST)];
+    let back = &mut back_room[..given.back_length.min(LONGEST)];
+    remove_insert(rt, a, given.place, out, back)
 }
 
 // Makes the calls for one case.
-fn answer_case(rt: &impl Print, a: &[i32], given: Given) -> io::Result<()> {
+fn answer_case(rt: &impl Print, case: &mut Cursor) -> io::Result<()> {
+    let mut room = [0; LONGEST];
+    let a = case.list(&mut room);
+    let given = Given::read(case);
     answer_insert(rt, a, given)?;
     answer_remove(rt, a, given)
 }
 
-// Answers the case at a place of the input. Gives the place after it.
-fn next_case(rt: &impl Print, s: &[u8], from: usize) -> io::Result<usize> {
-    let a = case_input::read_list(s, from);
-    let given = read_given(s, a.next);
-    let count = a.count;
-    let items = a.items;
-    let next = given.next;
-    answer_case(rt, &items[..count], given)?;
-    Ok(next)
-}
-
-fn answer_cases(rt: &impl Print, s: &[u8]) -> io::Result<()> {
-    let count = case_input::read_number(s, 0);
-    let mut next = count.next;
-    for _ in 0..count.size {
-        next = next_case(rt, s, next)?;
-    }
-    Ok(())
-}
-
 fn main(rt: HostRuntime) -> io::Result<()> {
-    let mut text = case_input::room();
-    let count = standard_input::read_full(&rt, &mut text)?;
-    answer_cases(&rt, &text[..count])
+    let mut room = case_input::room();
+    let count = standard_input::read_full(&rt, &mut room)?;
+    Cursor::new(&room[..count]).for_each_case(|case| answer_case(&rt, case))
 }

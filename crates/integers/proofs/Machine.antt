@@ -3,28 +3,24 @@
 --     at_most-neg, at_most-+, at_most--, at_most-*     the same for bounds
 --     local w z, i32, i64      z as a local or field of the width holds it: written as bits and read back
 --     Exact b z e             the machine's expression e is exactly the whole number z, which is at most b in size
---     value, field            an expression starts from a known bound, from a value of its type
+--     value                   an expression starts from a known bound
 --     stored                  it is kept in a local, perhaps wider: so a widening cast too
 --     plus, minus, times      the operations
 --     fits                    it ends: the result fits its type. That it is z is `(stored w r tt).exact`
 --     size_fits               a number that is not negative is cast to an unsigned type
---     equal-bits              two signed numbers are compared by `==`
 -- Each test `T (ltb bound (2 ^ ..))` computes, and is answered by `tt`.
-use mathlib.Core.Path.{◌≡◌, refl, sym, ap, ◌∙◌}
-use mathlib.Core.Logic.Iff
+use mathlib.Core.Path.{◌≡◌, refl, ◌∙◌}
 use mathlib.Core.Bool.{Bool, true, false, cond}
 use Prim.Native.Nat.{ℕ, zero, suc, ◌+◌, ◌*◌, ◌-◌, ◌^◌, ◌≤◌}
 use native.Mathlib.Nat.{le_refl, le_trans, mul-le-mul, lt_of_le_of_lt}
 use native.Mathlib.Omega.{arith}
-use lib.Dec.{T, eqb, ltb, ltb→lt}
+use lib.Dec.{T, ltb, ltb→lt}
 use lib.IntN.{ℤ, pos, negsuc, neg_ℤ, nat_abs, sub_ℕ, ◌+ℤ◌, ◌-ℤ◌, ◌*ℤ◌}
-use lib.Signed.{mag, non_neg, nat_abs-le}
+use lib.Signed.{mag, non_neg}
 use mir.Syntax.{Width, w32, w64}
 use mir.Val.{Fits, SFits, bits, hbits, to_z, of_z}
 use mir.ValLaws.{to_z-of_z}
-use Rattle.integers.specs.Equal.{eq_z}
 use Rattle.integers.specs.Size.{AtMost}
-use Rattle.integers.proofs.Reflect.{test-eqb, test-eq_z, test-same}
 
 -- sizes
 
@@ -89,9 +85,6 @@ pub record Exact (b : ℕ) (z e : ℤ) : Type 0 where
 pub value : {b : ℕ} {z : ℤ} → AtMost b z → Exact b z z
 value h = record { bound = h; exact = refl }
 
-pub field : {w : Width} {z : ℤ} → SFits w z → Exact (2 ^ hbits w) z (local w z)
-field {w} {z} f = record { bound = record { size = nat_abs-le z f.sfits }; exact = to_z-of_z w z f }
-
 pub plus : {a b : ℕ} {y z d e : ℤ} → Exact a y d → Exact b z e → Exact (a + b) (y +ℤ z) (d +ℤ e)
 plus r s = record { bound = at_most-+ r.bound s.bound; exact = cc }
 
@@ -113,10 +106,3 @@ stored {e} w r t = record { bound = r.bound; exact = to_z-of_z w e (fits r t) �
 pub size_fits : {w : Width} {b : ℕ} {z e : ℤ} → Exact b z e → T (non_neg z) → T (ltb b (2 ^ bits w)) → T (non_neg e) × Fits w (nat_abs e)
 size_fits {w} {b} r h t =
     rw r.exact (h, record { fits = lt_of_le_of_lt r.bound.size (ltb→lt b (2 ^ bits w) t) })
-
--- what `==` on two signed numbers answers: it compares their bits
-pub equal-bits : (w : Width) (a b : ℤ) → SFits w a → SFits w b → eqb (of_z w a) (of_z w b) ≡ eq_z a b
-equal-bits w a b fa fb =
-    test-same (eqb (of_z w a) (of_z w b)) (eq_z a b)
-    (Iff.trans (test-eqb (of_z w a) (of_z w b)) (λ bits. sym (to_z-of_z w a fa) ∙ ap (to_z w) bits ∙ to_z-of_z w b fb, ap (of_z w)))
-    (test-eq_z a b)

@@ -1,16 +1,14 @@
 -- Newton's iteration for the root of n: from a guess r, at least the root, to (r + n / r) / 2.
 --     Guess          what holds of every guess
---     half_length-small    the power of two that the code starts at is at most 2³²
---     guess-first    it is a guess
+--     guess-first    the power of two that the code starts at is a guess
 --     guess-next     so is the next one after a guess that is above n / r
 --     guess-root     a guess that is not above n / r is the root
-use Prim.Native.Nat.{ℕ, zero, suc, ◌+◌, ◌-◌, ◌*◌, ◌/◌, ◌%◌, ◌^◌, ◌<◌, ◌≤◌}
+use Prim.Native.Nat.{ℕ, zero, suc, ◌+◌, ◌*◌, ◌/◌, ◌%◌, ◌^◌, ◌<◌, ◌≤◌}
 use native.Mathlib.Nat.{div-mul-le_self, le_dest, le_of_lt, le_trans, lt-div-mul-add, lt_of_lt_of_le, lt_of_not-le}
-use native.Mathlib.Nat.{mul-le-mul_right, one-mul}
+use native.Mathlib.Nat.{mul-le-mul_right, one-mul, pow-succ'}
 use native.Mathlib.Decide.{dec_le}
 use native.Mathlib.Omega.{arith}
 use mathlib.Core.Path.{◌≡◌}
-use lib.Count.{count_leading_zeros, leading_length}
 use lib.Dec.{lit<}
 use lib.Pow.{pow-add, pow_mono, pow_pos, shl_exact}
 use Rattle.integers.specs.code.Root.{root}
@@ -22,24 +20,15 @@ pub record Guess (n r : ℕ) : Type 0 where
   pub above : n < suc r * suc r
   pub small : r ≤ 2 ^ 32
 
--- half of n's length in bits, rounded up
-abbrev half_length : ℕ → ℕ
-half_length n = (65 - count_leading_zeros 64 n) / 2
-
--- it is at most 32
-pub half_length-small : (n : ℕ) → n < 2 ^ 64 → half_length n ≤ 32
-half_length-small n fits = omega (arith, (leading_length 64 n fits).1)
-
--- The square of 2 to this power is above n.
-pub guess-first : (n : ℕ) → n < 2 ^ 64 → Guess n ((1 * 2 ^ half_length n) % 2 ^ 64)
-guess-first n fits =
-    let s : ℕ = half_length n in
-    let small : s ≤ 32 = half_length-small n fits in
-    let length = leading_length 64 n fits in
-    let enough : length.0 ≤ s + s = omega (arith, length.1) in
-    let square : n < 2 ^ s * 2 ^ s = rw (← pow-add 2 s s) (lt_of_lt_of_le length.2 (pow_mono enough)) in
+-- With 2^k ≤ n < 2^(k + 1) the square of 2^(k / 2 + 1) is above n.
+pub guess-first : {n k : ℕ} → n < 2 * 2 ^ k → k < 64 → Guess n ((1 * 2 ^ (k / 2 + 1)) % 2 ^ 64)
+guess-first {n} {k} above small =
+    let s : ℕ = k / 2 + 1 in
+    let low : s ≤ 32 = omega arith in
+    let enough : suc k ≤ s + s = omega arith in
+    let square : n < 2 ^ s * 2 ^ s = rw (← pow-add 2 s s) (lt_of_lt_of_le (rw (pow-succ' 2 k) above) (pow_mono enough)) in
     rw (shl_exact {a = 1} 1 s 64 (lit< tt) (omega arith), one-mul)
-    (record { positive = pow_pos s; above = omega arith; small = pow_mono small })
+    (record { positive = pow_pos s; above = omega arith; small = pow_mono low })
 
 -- 2ab ≤ a² + b²
 twice-product : (a b : ℕ) → a * b + a * b ≤ a * a + b * b

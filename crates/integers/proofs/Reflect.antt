@@ -6,9 +6,9 @@
 --     test-and, test-or    both of two tests, one of two tests
 --     test-eqb, test-ltb, test-leb, test-le_z, test-eq_z    the tests of numbers
 --     ≤-≤ℤ           the order of natural numbers, as integers
---     and_then, and-stop    two tests made one after the other, as the code's `a && b` makes them
+--     int_eq-is      `==` on signed numbers answers `eq_z`
 use Prim.Native.Nat.{ℕ, ◌<◌, ◌≤◌}
-use mathlib.Core.Path.{◌≡◌, refl, sym, ap, ◌∙◌}
+use mathlib.Core.Path.{◌≡◌, refl, sym, ap}
 use mathlib.Core.Logic.Iff
 use mathlib.Core.Logic.{◌↔◌, ◌⊎◌, inl, inr}
 use mathlib.Core.Bool.{Bool, true, false, not, ◌&&◌, ◌||◌, true≢false, false≢true}
@@ -16,6 +16,8 @@ use borrow.Author.Tests.{not-true, eqb-true, eq-eqb, ltb-true, lt-ltb, leb-true,
 use lib.Dec.{eqb, ltb, leb}
 use lib.IntN.{ℤ, pos}
 use lib.Signed.{le_z, ◌≤ℤ◌, ≤ℤ_refl}
+use Rattle.std.specs.Ordering.{int_eq}
+use Rattle.std.proofs.lemmas.Bool.Decides.{Decides-int_eq}
 use Rattle.integers.specs.Equal.{eq_z}
 use Rattle.integers.proofs.Order.{le_z-true, ≤ℤ-le_z, ≤ℤ-antisym}
 
@@ -64,9 +66,5 @@ test-eq_z a b = Iff.trans (test-and (le_z a b) (le_z b a) (test-le_z a b) (test-
   λ e. (rw e (≤ℤ_refl b), rw e (≤ℤ_refl b)),
 )
 
-module _ {a r : Bool} (b : Bool) (first : r ≡ a) where
-  pub and_then : {s : Bool} → s ≡ b → r ≡ true → s ≡ (a && b)
-  and_then second holds = second ∙ ap (λ (t : Bool). t && b) (sym holds ∙ first)
-
-  pub and-stop : r ≡ false → r ≡ (a && b)
-  and-stop fails = fails ∙ ap (λ (t : Bool). t && b) (sym fails ∙ first)
+pub int_eq-is : (a b : ℤ) → int_eq a b ≡ eq_z a b
+int_eq-is a b = test-same (int_eq a b) (eq_z a b) (Decides-int_eq a b) (test-eq_z a b)

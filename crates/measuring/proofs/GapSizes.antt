@@ -6,6 +6,7 @@ use Prim.Native.Nat.{ℕ, ◌<◌}
 use mathlib.Core.Path.{sym, subst}
 use mathlib.Core.List.{List}
 use lib.ListN.{length}
+use Rattle.std.specs.Prelude.{Option, None, Some}
 use Rattle.integers.specs.code.Fraction.{Bounded}
 use Rattle.plane.specs.declared.Corner.{Corner}
 use Rattle.plane.specs.Vector.{◌⇀◌}
@@ -16,8 +17,6 @@ use Rattle.outline.proofs.CornersLaws.{previous-below, next-previous}
 use Rattle.nearest.proofs.GapLimit.{whole-bounded, edge-bounded, nearest-bounded}
 use Rattle.outline.specs.declared.Side.{Side}
 use Rattle.hausdorff.specs.declared.CornerGap.{CornerGap}
-use Rattle.hausdorff.specs.declared.WorstSoFar.{WorstSoFar}
-use Rattle.hausdorff.specs.declared.WorstSoFar.TheVariants.{None, Worst}
 use Rattle.hausdorff.specs.Pair.{Pair, Orientations, other}
 use Rattle.hausdorff.specs.code.Pair.{AcceptedPair}
 use Rattle.hausdorff.specs.Counted.{Counted}
@@ -33,7 +32,6 @@ module _ {cs : List Corner} (ok : Accepted cs) where
   -- the gap to what a window shows: the edge before the support corner ends there
   window-bounded : (b : ℕ) → b < length cs → (v : Corner) (f : LocalFeature)
       → Bounded (local_values v (window_at cs b) f).gap
-  window-bounded b below v LocalFeature.NotCounted = whole-bounded _
   window-bounded b below v LocalFeature.Corner = whole-bounded _
   window-bounded b below v LocalFeature.EdgeAfter = edge-bounded ok b below _
   window-bounded b below v LocalFeature.EdgeBefore =
@@ -53,8 +51,8 @@ pub worst-bounded : (pair : Pair) (os : Orientations) → AcceptedPair pair → 
 worst-bounded pair os ok k s =
     go (worst_after pair os k s) (worst-after pair (λ t. accepted-polygon (ok t)) s os k)
   where
-    go : (x : WorstSoFar) → WorstOf pair os s (Counted pair k s) x → BoundedWorst x
+    go : (x : Option CornerGap) → WorstOf pair os s (Counted pair k s) x → BoundedWorst x
     go None none = tt
-    go (Worst w) best =
+    go (Some w) best =
         subst (λ (x : CornerGap). Bounded x.gap) (sym best.equal)
         (nearest-bounded (ok (other s)) (corner (pair s) w.corner))

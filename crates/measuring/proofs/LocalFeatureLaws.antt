@@ -18,6 +18,7 @@ use native.Mathlib.Omega.{arith}
 use lib.IntN.{ℤ, pos, ◌-ℤ◌}
 use lib.ListN.{length}
 use lib.Signed.{le_z, lt_z, ◌<ℤ◌}
+use Rattle.std.specs.Prelude.{Option, Some, None}
 use Rattle.integers.proofs.Order.{le_z-not, lt_z-true, lt_z-false, <ℤ-lt_z, ≤ℤ-<ℤ-trans, <ℤ-sub, sub-<ℤ}
 use Rattle.integers.proofs.Polynomial.{◌⊖◌, solve}
 use Rattle.integers.proofs.Reflect.{test-same, test-false, test-or}
@@ -32,7 +33,7 @@ use Rattle.outline.proofs.EdgeLaws.{accepted-polygon, length-above-0}
 use Rattle.outline.proofs.CornersLaws.{next-below, previous-below, next-previous, previous-next}
 use Rattle.nearest.specs.declared.Feature.{Feature}
 use Rattle.projection.specs.declared.local.Part.{Part}
-use Rattle.projection.specs.declared.local.Part.TheVariants.{None, Start, Between, End}
+use Rattle.projection.specs.declared.local.Part.TheVariants.{Start, Between, End}
 use Rattle.nearest.specs.code.Local.{along, squared_length, foot_is_between, edge_is_nearest, is_corner, is_edge, Tested}
 use Rattle.nearest.specs.code.Local.{feature}
 use Rattle.nearest.proofs.AnswerLaws.{feature-tested, feature-iff}
@@ -52,10 +53,10 @@ right_after v w = is_right w.corner (w.corner ⇀ w.after) v
 abbrev pub right_before : Corner → Window → Bool
 right_before v w = is_left w.corner (w.corner ⇀ w.before) v
 
-abbrev pub part_after : Corner → Window → Part
+abbrev pub part_after : Corner → Window → Option Part
 part_after v w = edge_part v (w.corner ⇀ v) (w.corner ⇀ w.after) (right_after v w) true w.after w.later
 
-abbrev pub part_before : Corner → Window → Part
+abbrev pub part_before : Corner → Window → Option Part
 part_before v w = edge_part v (w.corner ⇀ v) (w.corner ⇀ w.before) (right_before v w) false w.before w.earlier
 
 -- ---- an edge, seen from its other end
@@ -106,17 +107,17 @@ record Neither (tests : Tests) (is : Bool) : Type 0 where
   pub start_is : tests.start ≡ is
 
 -- what a part says of the tests
-abbrev Means : Tests → Part → Type 0
+abbrev Means : Tests → Option Part → Type 0
 Means tests None = Neither tests false
-Means tests Start = Neither tests true
-Means tests Between = tests.edge ≡ true
-Means tests End = tests.end ≡ true
+Means tests (Some Start) = Neither tests true
+Means tests (Some Between) = tests.edge ≡ true
+Means tests (Some End) = tests.end ≡ true
 
 -- the tests that the code makes: the foot is past the support corner, it is before the other end, v is strictly
 -- right of the edge, and `end_is_nearest`
 by_tests : (past before right end : Bool) → (past ≡ false → before ≡ true)
     → Means (record { edge = right && (past && before); end = end && not before; start = not past })
-    (cond (not past) Start (cond before (cond right Between None) (cond end End None)))
+    (cond (not past) (Some Start) (cond before (cond right (Some Between) None) (cond end (Some End) None)))
 by_tests false true right end short = record { not_edge = and-false right; not_end = and-false end; start_is = refl }
 by_tests false false right end short = absurd (false≢true (short refl))
 by_tests true true true end short = refl
@@ -255,23 +256,23 @@ module _ {cs : List Corner} (polygon : Polygon cs) (b : ℕ) (below : b < length
 
   -- the support corner's test holds where v's foot is past it on neither edge, and v is strictly right of one
   at-corner : Neither tests_after true → Neither tests_before true → (right : Bool) → (right_after v w || right_before v w) ≡ right
-      → feature_of w (cond right LocalFeature.Corner LocalFeature.NotCounted) ≡ counted_feature cs b v
+      → feature_of w (cond right (Some LocalFeature.Corner) None) ≡ counted_feature cs b v
   at-corner x y true is = counted (Feature.Corner b) (below, corner-is x y ∙ (rw is)) (inl refl)
   at-corner x y false is = uncounted x y (corner-is x y ∙ (rw is))
 
   -- the edge after is asked first; where it has the nearest feature, the edge before says nothing else, since there
   -- is only one
-  by_parts-means : (f g : Part) → Means tests_after f → Means tests_before g
+  by_parts-means : (f g : Option Part) → Means tests_after f → Means tests_before g
       → feature_of w (by_parts f g (corner_if (right_after v w) (right_before v w))) ≡ counted_feature cs b v
-  by_parts-means Between g x y = counted (Feature.Edge b) (below, x) (inl refl)
-  by_parts-means End g x y = counted (Feature.Corner (next n b)) (next-below n b (omega arith), x) (inr (inl refl))
-  by_parts-means Start Start x y = at-corner x y (right_after v w || right_before v w) refl
-  by_parts-means Start Between x y = edge-before y
-  by_parts-means Start End x y = corner-before y
-  by_parts-means Start None x y = uncounted x y (corner-is x y)
-  by_parts-means None Start x y = uncounted x y (corner-is x y ∙ and-false (right_after v w || right_before v w))
-  by_parts-means None Between x y = edge-before y
-  by_parts-means None End x y = corner-before y
+  by_parts-means (Some Between) g x y = counted (Feature.Edge b) (below, x) (inl refl)
+  by_parts-means (Some End) g x y = counted (Feature.Corner (next n b)) (next-below n b (omega arith), x) (inr (inl refl))
+  by_parts-means (Some Start) (Some Start) x y = at-corner x y (right_after v w || right_before v w) refl
+  by_parts-means (Some Start) (Some Between) x y = edge-before y
+  by_parts-means (Some Start) (Some End) x y = corner-before y
+  by_parts-means (Some Start) None x y = uncounted x y (corner-is x y)
+  by_parts-means None (Some Start) x y = uncounted x y (corner-is x y ∙ and-false (right_after v w || right_before v w))
+  by_parts-means None (Some Between) x y = edge-before y
+  by_parts-means None (Some End) x y = corner-before y
   by_parts-means None None x y = uncounted x y (corner-is x y)
 
   pub by_parts-counted : (let w = window_at cs b in
@@ -279,7 +280,7 @@ module _ {cs : List Corner} (polygon : Polygon cs) (b : ℕ) (below : b < length
   by_parts-counted = by_parts-means (part_after v w) (part_before v w) after-means before-means
 
 -- a window of an accepted outline is one of a polygon
-pub by_parts-window : {w : Window} (v : Corner) {f g : Part} {a b : Bool} → f ≡ part_after v w → g ≡ part_before v w
+pub by_parts-window : {w : Window} (v : Corner) {f g : Option Part} {a b : Bool} → f ≡ part_after v w → g ≡ part_before v w
     → a ≡ right_after v w → b ≡ right_before v w → (window : IsWindow w)
     → feature_of w (by_parts f g (corner_if a b)) ≡ counted_feature window.outline w.number v
 by_parts-window {w} v f-is g-is a-is b-is window = rw (f-is, g-is, a-is, b-is) (subst

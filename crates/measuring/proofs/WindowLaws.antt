@@ -41,7 +41,6 @@ module _ {w : Window} (window : IsWindow w) where
       })
 
   pub local_values-below : (v : Corner) (f : LocalFeature) → FeatureBelow w.count (local_values v w f).feature
-  local_values-below v LocalFeature.NotCounted = tt
   local_values-below v LocalFeature.Corner = window-below
   local_values-below v LocalFeature.EdgeAfter = window-below
   local_values-below v LocalFeature.EdgeBefore = before-below refl window-below

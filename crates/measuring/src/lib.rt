@@ -8,13 +8,12 @@ ghost use Rattle.plane.specs.code.Range.{Span, reach};
 ghost use Rattle.hausdorff.specs.CornerGap.{with_corner};
 ghost use Rattle.hausdorff.specs.code.Worst.{keep};
 ghost use Rattle.measuring.specs.Window.{given_number, IsWindow};
-ghost use Rattle.measuring.specs.LocalFeature.{feature_of, counted_feature, is_not_counted, local_values, local_given};
+ghost use Rattle.measuring.specs.LocalFeature.{feature_of, counted_feature, local_values, local_given};
 ghost use Rattle.measuring.specs.EdgePart.{end_is_nearest, edge_part, corner_if, by_parts};
 ghost use Rattle.measuring.specs.Changes.{BoundedWorst, is_worse, changes};
 
-use hausdorff::{CornerGap, WorstSoFar};
-use integers::fraction;
-use integers::fraction::{Fraction, Order};
+use hausdorff::CornerGap;
+use integers::fraction::Fraction;
 use nearest::NearestPoint;
 use outline::{Orientation, Side};
 use plane::{Corner, Vector};
@@ -36,10 +35,9 @@ pub struct Window {
 }
 
 // The nearest feature to a point, where it is at the support corner: this corner, an edge that meets there, or that
-// edge's other end. NotCounted: it is another, or the point is within.
+// edge's other end. A point whose nearest feature is another, or that is within, does not count and has none.
 #[derive(Clone, Copy)]
 pub enum LocalFeature {
-    NotCounted,
     Corner,
     EdgeAfter,
     EdgeBefore,
@@ -84,7 +82,7 @@ fn edge_part(
     is_after: bool,
     end: Corner,
     beyond: Corner,
-) -> Part
+) -> Option<Part>
     requires in_range { InRange v }
     requires span { Span reach to }
     requires span_2 { Span reach run }
@@ -94,59 +92,49 @@ fn edge_part(
 {
     let along = plane::dot(to, run);
     if along <= 0 {
-        return Part::Start;
+        return Some(Part::Start);
     }
     if along < plane::squared_length(run) {
         if is_right {
-            return Part::Between;
+            return Some(Part::Between);
         }
-        return Part::None;
+        return None;
     }
     if end_is_nearest(v, is_right, is_after, end, beyond) {
-        return Part::End;
+        return Some(Part::End);
     }
-    Part::None
+    None
 }
 
 // What is found for v whose feet are at the support corner, or off both edges on that side: this corner, if v is
 // strictly right of one of them. Of such points the corner itself alone is not.
-fn corner_if(right_after: bool, right_before: bool) -> LocalFeature
+fn corner_if(right_after: bool, right_before: bool) -> Option<LocalFeature>
     ensures { result ≡ corner_if right_after right_before }
 {
-    if right_after {
-        return LocalFeature::Corner;
-    }
-    if right_before {
-        return LocalFeature::Corner;
-    }
-    LocalFeature::NotCounted
+    (right_after || right_before).then_some(LocalFeature::Corner)
 }
 
 // What the parts of the edge after the support corner and of the edge before it tell; `corner` is what is found if
 // both are Start.
-fn by_parts(after: Part, before: Part, corner: LocalFeature) -> LocalFeature
+fn by_parts(
+    after: Option<Part>,
+    before: Option<Part>,
+    corner: Option<LocalFeature>,
+) -> Option<LocalFeature>
     ensures { result ≡ by_parts after before corner }
 {
-    match after {
-        Part::Between => LocalFeature::EdgeAfter,
-        Part::End => LocalFeature::CornerAfter,
-        Part::Start => match before {
-            Part::Start => corner,
-            Part::Between => LocalFeature::EdgeBefore,
-            Part::End => LocalFeature::CornerBefore,
-            Part::None => LocalFeature::NotCounted,
-        },
-        Part::None => match before {
-            Part::Start => LocalFeature::NotCounted,
-            Part::Between => LocalFeature::EdgeBefore,
-            Part::End => LocalFeature::CornerBefore,
-            Part::None => LocalFeature::NotCounted,
-        },
+    match (after, before) {
+        (Some(Part::Between), _) => Some(LocalFeature::EdgeAfter),
+        (Some(Part::End), _) => Some(LocalFeature::CornerAfter),
+        (_, Some(Part::Between)) => Some(LocalFeature::EdgeBefore),
+        (_, Some(Part::End)) => Some(LocalFeature::CornerBefore),
+        (Some(Part::Start), Some(Part::Start)) => corner,
+        _ => None,
     }
 }
 
 // The nearest feature to v, if v counts.
-pub fn local_feature(v: Corner, w: Window) -> LocalFeature
+pub fn local_feature(v: Corner, w: Window) -> Option<LocalFeature>
     requires in_range { InRange v }
     requires window { IsWindow w }
     ensures { (window : IsWindow w) → feature_of w result ≡ counted_feature window.outline w.number v }
@@ -165,7 +153,7 @@ pub fn local_feature(v: Corner, w: Window) -> LocalFeature
     )
 }
 
-// The gap and the nearest point of what `local_feature` found.
+// The gap and the nearest point of a local feature.
 fn local_values(v: Corner, w: Window, f: LocalFeature) -> NearestPoint
     requires in_range { InRange v }
     requires window { IsWindow w }
@@ -174,7 +162,6 @@ fn local_values(v: Corner, w: Window, f: LocalFeature) -> NearestPoint
     let n = w.count;
     let b = w.number;
     match f {
-        LocalFeature::NotCounted => answers::within(v),
         LocalFeature::Corner => answers::at_corner(v, b, w.corner),
         LocalFeature::EdgeAfter => answers::on_edge(v, b, w.corner, w.after),
         LocalFeature::EdgeBefore => answers::on_edge(
@@ -188,20 +175,6 @@ fn local_values(v: Corner, w: Window, f: LocalFeature) -> NearestPoint
     }
 }
 
-// Whether `local_feature` found that v does not count.
-fn is_not_counted(f: LocalFeature) -> bool
-    ensures { result ≡ is_not_counted f }
-{
-    match f {
-        LocalFeature::NotCounted => true,
-        LocalFeature::Corner => false,
-        LocalFeature::EdgeAfter => false,
-        LocalFeature::EdgeBefore => false,
-        LocalFeature::CornerAfter => false,
-        LocalFeature::CornerBefore => false,
-    }
-}
-
 // Whether a corner with this gap takes the place of another of its side: its gap is greater, or equal and its
 // number lower.
 fn is_worse(gap: Fraction, number: usize, old: CornerGap) -> bool
@@ -209,11 +182,7 @@ fn is_worse(gap: Fraction, number: usize, old: CornerGap) -> bool
     requires bounded_2 { Bounded old.gap }
     ensures { result ≡ is_worse gap number old }
 {
-    match fraction::compare(old.gap, gap) {
-        Order::Less => true,
-        Order::Equal => number < old.corner,
-        Order::Greater => false,
-    }
+    old.gap.compare(gap).then(number.cmp(&old.corner)).is_lt()
 }
 
 // The number of the support corner in the list as given.
@@ -230,40 +199,36 @@ pub fn changes(
     of_own: Orientation,
     own: Window,
     w: Window,
-    f: LocalFeature,
-    old: WorstSoFar,
+    f: Option<LocalFeature>,
+    old: Option<CornerGap>,
 ) -> bool
     requires window { IsWindow own }
     requires window_2 { IsWindow w }
     requires bounded_worst { BoundedWorst old }
     ensures { result ≡ changes (given_number of_own own) own.corner w f old }
 {
-    if is_not_counted(f) {
+    let Some(f) = f else {
         return false;
-    }
-    match old {
-        WorstSoFar::None => true,
-        WorstSoFar::Worst(o) => is_worse(
+    };
+    old.is_none_or(|o| {
+        is_worse(
             local_values(own.corner, w, f).gap,
             given_number(of_own, own),
             o,
-        ),
-    }
+        )
+    })
 }
 
 // A nearest point with the side and the number of the corner that it is for.
 pub fn with_corner(side: Side, number: usize, a: NearestPoint) -> CornerGap
     ensures { result ≡ with_corner side number a }
 {
-    let feature = a.feature;
-    let gap = a.gap;
-    let point = a.point;
     CornerGap {
-        side: side,
+        side,
         corner: number,
-        feature: feature,
-        gap: gap,
-        point: point,
+        feature: a.feature,
+        gap: a.gap,
+        point: a.point,
     }
 }
 
@@ -275,17 +240,20 @@ pub fn keep(
     own: Window,
     of_w: Orientation,
     w: Window,
-    f: LocalFeature,
-    old: WorstSoFar,
-) -> WorstSoFar
+    f: Option<LocalFeature>,
+    old: Option<CornerGap>,
+) -> Option<CornerGap>
     requires window { IsWindow own }
     requires window_2 { IsWindow w }
     requires bounded_worst { BoundedWorst old }
     ensures { result ≡ keep (λ (i : ℕ). i) old (local_given side (given_number of_own own) own.corner of_w w f) }
 {
-    if !changes(of_own, own, w, f, old) {
-        return old;
+    match f {
+        Some(found) if changes(of_own, own, w, f, old) => {
+            let nearest = local_values(own.corner, w, found);
+            let given = answers::given_nearest(of_w, w.count, nearest);
+            Some(with_corner(side, given_number(of_own, own), given))
+        }
+        _ => old,
     }
-    let nearest = answers::given_nearest(of_w, w.count, local_values(own.corner, w, f));
-    WorstSoFar::Worst(with_corner(side, given_number(of_own, own), nearest))
 }

@@ -21,6 +21,7 @@ use mathlib.Core.List.{List}
 use native.Mathlib.Omega.{arith}
 use lib.IntN.{ℤ}
 use lib.ListN.{length}
+use Rattle.std.specs.Prelude.{Result, Ok, Err}
 use Rattle.integers.specs.Fraction.{LessThan}
 use Rattle.integers.specs.Units.{of_units}
 use Rattle.outline.specs.declared.Orientation.{Orientation}
@@ -31,8 +32,6 @@ use Rattle.outline.specs.Refusal.{FirstFault}
 use Rattle.outline.proofs.EitherLaws.{accepted-held}
 use Rattle.nearest.proofs.Rotation.{starting_at}
 use Rattle.nearest.proofs.Reversal.{opposite, SameCycle, held_start, held-reversal, accepted-start, accepted-reversal}
-use Rattle.hausdorff.specs.declared.Comparison.TheVariants as Comparison
-use Rattle.hausdorff.specs.declared.PairVerdict.{PairVerdict}
 use Rattle.hausdorff.specs.declared.CornerGap.{CornerGap}
 use Rattle.hausdorff.specs.Answer.{IsGap}
 use Rattle.hausdorff.specs.Call.{pair_conditions, held_pair}
@@ -40,8 +39,6 @@ use Rattle.hausdorff.specs.code.Sizes.{FitsI64}
 use Rattle.hausdorff.specs.code.Call.{check_pair, comparison}
 use Rattle.hausdorff.proofs.CallLaws.{pair-refused, pair-taken, compare-refuses, held-polygons}
 use Rattle.hausdorff.proofs.SamePieces.{SameHeldPiece, SameOrReversed}
-use Rattle.mismatch.specs.declared.MismatchAnswer.{MismatchAnswer}
-use Rattle.mismatch.specs.declared.MismatchAnswer.TheVariants.{Summed, Refused}
 use Rattle.mismatch.specs.MismatchSum.{units}
 use Rattle.mismatch.specs.Call.{IsMismatchAnswer, refused, summed}
 use Rattle.mismatch.specs.code.MismatchSum.{mismatch_sum}
@@ -50,53 +47,53 @@ use Rattle.mismatch.proofs.MismatchLaws.{mismatch_sum-is, mismatch_sum-unique, m
 use Rattle.mismatch.proofs.MismatchLaws.{mismatch_sum-fits}
 
 module _ (s t : List ℤ) where
-  pub mismatch-refuses : (r : Refusal) → (mismatch_answer s t ≡ Refused r) ↔ FirstFault (pair_conditions s t) r
+  pub mismatch-refuses : (r : Refusal) → (mismatch_answer s t ≡ Err r) ↔ FirstFault (pair_conditions s t) r
   mismatch-refuses r = Iff.trans (by-checks (check_pair s t)) (pair-refused s t r)
     where
-      by-checks : (v : PairVerdict) → (mismatch_for s t v ≡ Refused r) ↔ (v ≡ PairVerdict.Refused r)
-      by-checks (PairVerdict.Taken o q) = (λ e. cc, λ e. cc)
-      by-checks (PairVerdict.Refused q) = (λ e. cc, λ e. cc)
+      by-checks : (v : Result (Orientation × Orientation) Refusal) → (mismatch_for s t v ≡ Err r) ↔ (v ≡ Err r)
+      by-checks (Ok (o, q)) = (λ e. cc, λ e. cc)
+      by-checks (Err q) = (λ e. cc, λ e. cc)
 
   -- both go by the same conditions
   pub refuses-as-comparing : (allowance : ℕ) (r : Refusal)
-      → (mismatch_answer s t ≡ Refused r) ↔ (comparison s t allowance ≡ Comparison.Refused r)
+      → (mismatch_answer s t ≡ Err r) ↔ (comparison s t allowance ≡ Err r)
   refuses-as-comparing allowance r = Iff.trans (mismatch-refuses r) (Iff.symm (compare-refuses s t allowance r))
 
   -- some condition applies, or both lists are accepted
   pub is-mismatch-answer : IsMismatchAnswer s t (mismatch_answer s t)
   is-mismatch-answer = go (check_pair s t) refl
     where
-      go : (v : PairVerdict) → check_pair s t ≡ v → IsMismatchAnswer s t (mismatch_for s t v)
-      go (PairVerdict.Refused r) refuses = refused r ((pair-refused s t r).0 refuses) refl
-      go (PairVerdict.Taken o q) takes =
+      go : (v : Result (Orientation × Orientation) Refusal) → check_pair s t ≡ v → IsMismatchAnswer s t (mismatch_for s t v)
+      go (Err r) refuses = refused r ((pair-refused s t r).0 refuses) refl
+      go (Ok (o, q)) takes =
           let (ok-a, ok-b) = (pair-taken s t o q).0 takes in
           summed o q _ ok-a ok-b (mismatch_sum-is (held_pair o q s t) (held-polygons s t o q ok-a ok-b)) refl
 
   -- of lists that are accepted with orientations it gives the sum of the outlines as held
   accepted-summed : (o q : Orientation) → AcceptedAs o s → AcceptedAs q t
-      → mismatch_answer s t ≡ Summed (mismatch_sum (held_pair o q s t))
+      → mismatch_answer s t ≡ Ok (mismatch_sum (held_pair o q s t))
   accepted-summed o q ok-a ok-b = ap (mismatch_for s t) ((pair-taken s t o q).1 (ok-a, ok-b))
 
-  pub mismatch_answer-unique : {result : MismatchAnswer} → IsMismatchAnswer s t result → result ≡ mismatch_answer s t
+  pub mismatch_answer-unique : {result : Result ℕ Refusal} → IsMismatchAnswer s t result → result ≡ mismatch_answer s t
   mismatch_answer-unique (refused r first is) = is ∙ sym ((mismatch-refuses r).1 first)
   mismatch_answer-unique (summed o q m ok-a ok-b sums is) =
-      is ∙ ap Summed (mismatch_sum-unique (held_pair o q s t) (held-polygons s t o q ok-a ok-b) sums)
+      is ∙ ap Ok (mismatch_sum-unique (held_pair o q s t) (held-polygons s t o q ok-a ok-b) sums)
       ∙ sym (accepted-summed o q ok-a ok-b)
 
-  pub call-promises : {result : MismatchAnswer} → result ≡ mismatch_answer s t
+  pub call-promises : {result : Result ℕ Refusal} → result ≡ mismatch_answer s t
       → (result ≡ mismatch_answer s t) × IsMismatchAnswer s t result
   call-promises is = (is, rw is is-mismatch-answer)
 
-  module _ {v : PairVerdict} (found : v ≡ check_pair s t) where
-    pub call-refused : {r : Refusal} → v ≡ PairVerdict.Refused r → Refused r ≡ mismatch_answer s t
+  module _ {v : Result (Orientation × Orientation) Refusal} (found : v ≡ check_pair s t) where
+    pub call-refused : {r : Refusal} → v ≡ Err r → Err r ≡ mismatch_answer s t
     call-refused is = ap (mismatch_for s t) (sym is ∙ found)
 
-    pub call-summed : {o q : Orientation} {m : ℕ} → v ≡ PairVerdict.Taken o q → m ≡ mismatch_sum (held_pair o q s t)
-        → Summed m ≡ mismatch_answer s t
-    call-summed is made = ap Summed made ∙ ap (mismatch_for s t) (sym is ∙ found)
+    pub call-summed : {o q : Orientation} {m : ℕ} → v ≡ Ok (o, q) → m ≡ mismatch_sum (held_pair o q s t)
+        → Ok m ≡ mismatch_answer s t
+    call-summed is made = ap Ok made ∙ ap (mismatch_for s t) (sym is ∙ found)
 
 -- an answer has one sum
-same_sum : {m k : ℕ} → Summed m ≡ Summed k → m ≡ k
+same_sum : {m k : ℕ} → ◌≡◌ {A = Result ℕ Refusal} (Ok m) (Ok k) → m ≡ k
 same_sum e = cc
 
 -- both lists are accepted, and the sum is that of the outlines as held
@@ -107,10 +104,10 @@ pub record Sums (s t : List ℤ) (m : ℕ) : Type 0 where
   pub accepted_b : AcceptedAs of_b t
   pub is_sum : m ≡ mismatch_sum (held_pair of_a of_b s t)
 
-pub sums-iff : (s t : List ℤ) (m : ℕ) → IsMismatchAnswer s t (Summed m) ↔ Sums s t m
+pub sums-iff : (s t : List ℤ) (m : ℕ) → IsMismatchAnswer s t (Ok m) ↔ Sums s t m
 sums-iff s t m = (there, back)
   where
-    there : IsMismatchAnswer s t (Summed m) → Sums s t m
+    there : IsMismatchAnswer s t (Ok m) → Sums s t m
     there (refused r first is) = absurd (let z : ◌≡◌ {A = ℕ} 0 1 = cc in omega arith)
     there (summed o q k ok-a ok-b sums is) = record {
       of_a = o;
@@ -120,11 +117,11 @@ sums-iff s t m = (there, back)
       is_sum = same_sum is ∙ mismatch_sum-unique (held_pair o q s t) (held-polygons s t o q ok-a ok-b) sums;
     }
 
-    back : Sums s t m → IsMismatchAnswer s t (Summed m)
+    back : Sums s t m → IsMismatchAnswer s t (Ok m)
     back sums = summed sums.of_a sums.of_b m sums.accepted_a sums.accepted_b
         (rw sums.is_sum (mismatch_sum-is _ (held-polygons s t _ _ sums.accepted_a sums.accepted_b))) refl
 
-module _ (s t : List ℤ) (m : ℕ) (is : IsMismatchAnswer s t (Summed m)) where
+module _ (s t : List ℤ) (m : ℕ) (is : IsMismatchAnswer s t (Ok m)) where
   -- it is 0 exactly where every gap is less than one unit, with the outlines as held
   pub mismatch-zero-iff : (o q : Orientation) → AcceptedAs o s → AcceptedAs q t
       → (m ≡ 0) ↔ ((w : CornerGap) → IsGap (held_pair o q s t) w → LessThan w.gap (of_units units 1))
@@ -139,7 +136,7 @@ module _ (s t : List ℤ) (m : ℕ) (is : IsMismatchAnswer s t (Summed m)) where
       sums.is_sum ∙ same-piece-zero _ (held-polygons s t _ _ ok-a ok-b) (same _ _ ok-a ok-b)
 
   -- the call gives the same sum for B and A
-  pub mismatch-swap : IsMismatchAnswer t s (Summed m)
+  pub mismatch-swap : IsMismatchAnswer t s (Ok m)
   mismatch-swap = let sums = (sums-iff s t m).0 is in (sums-iff t s m).1 (record {
     of_a = sums.of_b;
     of_b = sums.of_a;
@@ -160,8 +157,8 @@ reversal-same-cycle : (s s' : List ℤ) → length s' % 2 ≡ 0 → SameOrRevers
 reversal-same-cycle s s' even = ⊎_elim (start-same-cycle s s' 0 even)
     (λ is o ok. (opposite o, accepted-reversal o s s' even is ok, rw is (held-reversal o (corners s))))
 
-module _ (s t s' t' : List ℤ) (m : ℕ) (is : IsMismatchAnswer s t (Summed m)) where
-  same-cycle : SameHeldCycle s s' → SameHeldCycle t t' → IsMismatchAnswer s' t' (Summed m)
+module _ (s t s' t' : List ℤ) (m : ℕ) (is : IsMismatchAnswer s t (Ok m)) where
+  same-cycle : SameHeldCycle s s' → SameHeldCycle t t' → IsMismatchAnswer s' t' (Ok m)
   same-cycle same-a same-b =
       let sums = (sums-iff s t m).0 is in
       let (o, ok-a, cycle-a) = same-a sums.of_a sums.accepted_a in
@@ -178,15 +175,15 @@ module _ (s t s' t' : List ℤ) (m : ℕ) (is : IsMismatchAnswer s t (Summed m))
   module _ (even-s : length s' % 2 ≡ 0) (even-t : length t' % 2 ≡ 0) where
     -- the call gives the same sum for lists of even length that start at other corners,
     pub mismatch-start : (a b : ℕ) → corners s' ≡ starting_at a (corners s) → corners t' ≡ starting_at b (corners t)
-        → IsMismatchAnswer s' t' (Summed m)
+        → IsMismatchAnswer s' t' (Ok m)
     mismatch-start a b from-s from-t = same-cycle (start-same-cycle s s' a even-s from-s) (start-same-cycle t t' b even-t from-t)
 
     -- and for lists of which A's, B's or both are in the opposite order
-    pub mismatch-reversal : SameOrReversed s s' → SameOrReversed t t' → IsMismatchAnswer s' t' (Summed m)
+    pub mismatch-reversal : SameOrReversed s s' → SameOrReversed t t' → IsMismatchAnswer s' t' (Ok m)
     mismatch-reversal way_a way-b = same-cycle (reversal-same-cycle s s' even-s way_a) (reversal-same-cycle t t' even-t way-b)
 
 -- a sum fits 63 bits
-pub mismatch-fits : (s t : List ℤ) (m : ℕ) → IsMismatchAnswer s t (Summed m) → FitsI64 m
+pub mismatch-fits : (s t : List ℤ) (m : ℕ) → IsMismatchAnswer s t (Ok m) → FitsI64 m
 mismatch-fits s t m is =
     let sums = (sums-iff s t m).0 is in
     rw sums.is_sum (mismatch_sum-fits (accepted-held sums.accepted_a) (accepted-held sums.accepted_b))

@@ -2,14 +2,5 @@
 // whole number of units, and these added. `specs/` defines it, and `proofs/` shows what a reader would expect of it.
 #![tactic(auto)]
 
-use outline::Refusal;
-
 // Rule 4.9: how many units make a square millimetre.
 pub const UNITS: u64 = 1024;
-
-// What the call for the mismatch sum answers: the sum, in units, or a refusal.
-#[derive(Clone, Copy)]
-pub enum MismatchAnswer {
-    Summed(u64),
-    Refused(Refusal),
-}

@@ -21,6 +21,7 @@ use mathlib.Core.Bool.{true, false, not}
 use mathlib.Core.List.{List, [], ◌∷◌}
 use lib.IntN.{ℤ}
 use lib.ListN.{length}
+use Rattle.std.specs.Prelude.{None, Result, Ok, Err}
 use Rattle.integers.proofs.Reflect.{test-false, test-not, test-stable}
 use Rattle.plane.specs.declared.Corner.{Corner}
 use Rattle.plane.specs.Range.{InRange}
@@ -30,9 +31,7 @@ use Rattle.outline.specs.declared.Place.TheVariants.{Nowhere}
 use Rattle.outline.specs.declared.Orientation.{Orientation}
 use Rattle.outline.specs.declared.Orientation.TheVariants.{Counterclockwise}
 use Rattle.outline.specs.declared.Refusal.{Refusal}
-use Rattle.outline.specs.declared.RefusedSide.TheVariants.{NoSide}
-use Rattle.outline.specs.declared.Verdict.{Verdict}
-use Rattle.outline.specs.code.Checks.{first}
+use Rattle.outline.specs.code.Checks.{Verdict, first}
 use Rattle.outline.specs.code.Reading.{check_point}
 use Rattle.outline.specs.Conditions.{either_conditions, point_out_of_range, AcceptedList}
 use Rattle.outline.specs.Corners.{corners}
@@ -48,8 +47,6 @@ use Rattle.outline.proofs.ConditionLaws.{NoneApplies, nowhere-plain}
 use Rattle.outline.proofs.EitherLaws.{accepted-held, strict-either, accepted-orientation, either-decide, none-either}
 use Rattle.outline.proofs.EitherLaws.{checked-accepted}
 use Rattle.outline.proofs.OrientationLaws.{held-length}
-use Rattle.nearest.specs.declared.NearestAnswer.{NearestAnswer}
-use Rattle.nearest.specs.declared.NearestAnswer.TheVariants.{Found, Refused}
 use Rattle.nearest.specs.declared.NearestPoint.{NearestPoint}
 use Rattle.nearest.specs.Nearest.{Answers}
 use Rattle.nearest.proofs.AnswerLaws.{answers-iff}
@@ -68,44 +65,44 @@ module _ (v : Corner) where
   module _ (s : List ℤ) where
     decide : AllDecide (nearest_checks v s) (nearest_conditions v s)
     decide =
-        decide-append (either_checks NoSide s) (check_point v ∷ []) (either_conditions NoSide s) (point_out_of_range v ∷ [])
-        (either-decide NoSide s) (point-decides v, tt)
+        decide-append (either_checks None s) (check_point v ∷ []) (either_conditions None s) (point_out_of_range v ∷ [])
+        (either-decide None s) (point-decides v, tt)
 
-    pub point-refused : (r : Refusal) → (check_nearest v s ≡ Verdict.Refused r) ↔ FirstFault (nearest_conditions v s) r
+    pub point-refused : (r : Refusal) → (check_nearest v s ≡ Err r) ↔ FirstFault (nearest_conditions v s) r
     unfolding check_nearest
     point-refused = first-refused (nearest_checks v s) (nearest_conditions v s) decide
 
-    pub point-taken : (check_nearest v s ≡ Verdict.Taken) ↔ (AcceptedAs (orientation_of (corners s)) s × InRange v)
+    pub point-taken : (check_nearest v s ≡ Ok tt) ↔ (AcceptedAs (orientation_of (corners s)) s × InRange v)
     unfolding check_nearest
     point-taken =
         Iff.trans (first_taken (nearest_checks v s) (nearest_conditions v s) decide)
-        (Iff.trans (none-append (either_conditions NoSide s) (point_out_of_range v ∷ [])) (there, back))
+        (Iff.trans (none-append (either_conditions None s) (point_out_of_range v ∷ [])) (there, back))
       where
-        there : NoneApplies (either_conditions NoSide s) × NoneApplies (point_out_of_range v ∷ [])
+        there : NoneApplies (either_conditions None s) × NoneApplies (point_out_of_range v ∷ [])
             → AcceptedAs (orientation_of (corners s)) s × InRange v
         there (none, (not-out, _)) = (
-          (none-either NoSide s).0 none,
+          (none-either None s).0 none,
           point-in-range v not-out,
         )
 
         back : AcceptedAs (orientation_of (corners s)) s × InRange v
-            → NoneApplies (either_conditions NoSide s) × NoneApplies (point_out_of_range v ∷ [])
-        back (ok, all_in_range) = ((none-either NoSide s).1 ok, (nowhere-plain (λ out. out all_in_range), tt))
+            → NoneApplies (either_conditions None s) × NoneApplies (point_out_of_range v ∷ [])
+        back (ok, all_in_range) = ((none-either None s).1 ok, (nowhere-plain (λ out. out all_in_range), tt))
 
-    by-refusal : (w : Verdict) (r : Refusal) → (answer_for v s w ≡ Refused r) ↔ (w ≡ Verdict.Refused r)
-    by-refusal Verdict.Taken r = (λ e. cc, λ e. cc)
-    by-refusal (Verdict.Refused q) r = (λ e. cc, λ e. ap (answer_for v s) e)
+    by-refusal : (w : Verdict) (r : Refusal) → (answer_for v s w ≡ Err r) ↔ (w ≡ Err r)
+    by-refusal (Ok _) r = (λ e. cc, λ e. cc)
+    by-refusal (Err q) r = (λ e. cc, λ e. ap (answer_for v s) e)
 
     by_answer : (w : Verdict) (a : NearestPoint)
-        → (answer_for v s w ≡ Found a) ↔ ((w ≡ Verdict.Taken) × (a ≡ nearest_given v s))
-    by_answer Verdict.Taken a = (λ e. (refl, cc), λ h. cc)
-    by_answer (Verdict.Refused q) a = (λ e. (cc, cc), λ h. cc)
+        → (answer_for v s w ≡ Ok a) ↔ ((w ≡ Ok tt) × (a ≡ nearest_given v s))
+    by_answer (Ok _) a = (λ e. (refl, cc), λ h. cc)
+    by_answer (Err q) a = (λ e. (cc, cc), λ h. cc)
 
-    pub answer-refused : (r : Refusal) → (nearest_answer v s ≡ Refused r) ↔ (check_nearest v s ≡ Verdict.Refused r)
+    pub answer-refused : (r : Refusal) → (nearest_answer v s ≡ Err r) ↔ (check_nearest v s ≡ Err r)
     answer-refused = by-refusal (check_nearest v s)
 
     pub answer-found : (a : NearestPoint)
-        → (nearest_answer v s ≡ Found a) ↔ ((check_nearest v s ≡ Verdict.Taken) × (a ≡ nearest_given v s))
+        → (nearest_answer v s ≡ Ok a) ↔ ((check_nearest v s ≡ Ok tt) × (a ≡ nearest_given v s))
     answer-found = by_answer (check_nearest v s)
 
     -- a list that is accepted with an orientation, a point in range, and the answer that is laid down
@@ -121,10 +118,10 @@ module _ (v : Corner) where
     polygon : (o : Orientation) → AcceptedAs o s → Polygon (as_held o (corners s))
     polygon o ok = accepted-polygon (accepted-held ok)
 
-    pub nearest-answers : (a : NearestPoint) → (nearest_answer v s ≡ Found a) ↔ Answered a
+    pub nearest-answers : (a : NearestPoint) → (nearest_answer v s ≡ Ok a) ↔ Answered a
     nearest-answers a = Iff.trans (answer-found a) (there, back)
       where
-        there : (check_nearest v s ≡ Verdict.Taken) × (a ≡ nearest_given v s) → Answered a
+        there : (check_nearest v s ≡ Ok tt) × (a ≡ nearest_given v s) → Answered a
         there (takes, is) = let (ok, all_in_range) = point-taken.0 takes in record {
           orientation = orientation_of (corners s);
           answer_as_held = nearest (held_corners s) v;
@@ -134,7 +131,7 @@ module _ (v : Corner) where
           named = is;
         }
 
-        back : Answered a → (check_nearest v s ≡ Verdict.Taken) × (a ≡ nearest_given v s)
+        back : Answered a → (check_nearest v s ≡ Ok tt) × (a ≡ nearest_given v s)
         back of =
             let o = of.orientation in
             let is = accepted-orientation o s of.accepted in (
@@ -144,18 +141,18 @@ module _ (v : Corner) where
             )
 
     -- or the refusal of the first that applies, 1 to 6 for the outline and then 7
-    pub nearest-refuses : (r : Refusal) → (nearest_answer v s ≡ Refused r) ↔ FirstFault (nearest_conditions v s) r
+    pub nearest-refuses : (r : Refusal) → (nearest_answer v s ≡ Err r) ↔ FirstFault (nearest_conditions v s) r
     nearest-refuses r = Iff.trans (answer-refused r) (point-refused r)
 
     pub is-nearest-answer : IsNearestAnswer v s (nearest_answer v s)
     is-nearest-answer = go (nearest_answer v s) refl
       where
-        go : (result : NearestAnswer) → nearest_answer v s ≡ result → IsNearestAnswer v s (nearest_answer v s)
-        go (Refused r) is = refused r ((nearest-refuses r).0 is) is
-        go (Found a) is = let of = (nearest-answers a).0 is in
-            found of.orientation of.answer_as_held of.accepted of.all_in_range of.answers (is ∙ ap Found of.named)
+        go : (result : Result NearestPoint Refusal) → nearest_answer v s ≡ result → IsNearestAnswer v s (nearest_answer v s)
+        go (Err r) is = refused r ((nearest-refuses r).0 is) is
+        go (Ok a) is = let of = (nearest-answers a).0 is in
+            found of.orientation of.answer_as_held of.accepted of.all_in_range of.answers (is ∙ ap Ok of.named)
 
-    pub nearest_answer-unique : {result : NearestAnswer} → IsNearestAnswer v s result → result ≡ nearest_answer v s
+    pub nearest_answer-unique : {result : Result NearestPoint Refusal} → IsNearestAnswer v s result → result ≡ nearest_answer v s
     nearest_answer-unique (refused r fault is) = is ∙ sym ((nearest-refuses r).1 fault)
     nearest_answer-unique (found o a ok all_in_range answers is) = is ∙ sym ((nearest-answers _).1 (record {
       orientation = o;
@@ -167,7 +164,7 @@ module _ (v : Corner) where
     }))
 
     -- such a list is counterclockwise, and held as it is given
-    pub strict-nearest : AcceptedList s → InRange v → nearest_answer v s ≡ Found (nearest (corners s) v)
+    pub strict-nearest : AcceptedList s → InRange v → nearest_answer v s ≡ Ok (nearest (corners s) v)
     strict-nearest strict all_in_range =
         let ok = (strict-either s).1 strict in
         let a = nearest (corners s) v in
@@ -180,26 +177,26 @@ module _ (v : Corner) where
           named = sym (given-nearest-held (length (corners s)) a);
         })
 
-    pub call-promises : {result : NearestAnswer} → result ≡ nearest_answer v s
+    pub call-promises : {result : Result NearestPoint Refusal} → result ≡ nearest_answer v s
         → (result ≡ nearest_answer v s) × IsNearestAnswer v s result
     call-promises is = (is, rw is is-nearest-answer)
 
-    module _ {u : Verdict} (is-checked : u ≡ check_either NoSide s) where
-      pub call-refused : {r : Refusal} → u ≡ Verdict.Refused r → Refused r ≡ nearest_answer v s
+    module _ {u : Verdict} (is-checked : u ≡ check_either None s) where
+      pub call-refused : {r : Refusal} → u ≡ Err r → Err r ≡ nearest_answer v s
       unfolding check_nearest check_either
       call-refused {r} not_taken =
-          sym ((answer-refused r).1 (append-stops (either_checks NoSide s) (check_point v ∷ []) (sym is-checked ∙ not_taken)))
+          sym ((answer-refused r).1 (append-stops (either_checks None s) (check_point v ∷ []) (sym is-checked ∙ not_taken)))
 
-      module _ (taken : u ≡ Verdict.Taken) where
+      module _ (taken : u ≡ Ok tt) where
         accepted : AcceptedAs (orientation_of (corners s)) s
-        accepted = checked-accepted NoSide s is-checked taken refl
+        accepted = checked-accepted None s is-checked taken refl
 
         by-point : check_nearest v s ≡ first (check_point v ∷ [])
         unfolding check_nearest check_either
-        by-point = append-goes-on (either_checks NoSide s) (check_point v ∷ []) (sym is-checked ∙ taken)
+        by-point = append-goes-on (either_checks None s) (check_point v ∷ []) (sym is-checked ∙ taken)
 
         pub call-out-of-range : not (in_range v) ≡ true
-            → Refused (refusal (point_out_of_range v) Nowhere) ≡ nearest_answer v s
+            → Err (refusal (point_out_of_range v) Nowhere) ≡ nearest_answer v s
         call-out-of-range out = sym ((answer-refused _).1 (by-point ∙ rw out))
 
         module _ {o : Orientation} (found-is : o ≡ orientation_of (corners s)) where
@@ -221,7 +218,7 @@ module _ (v : Corner) where
               (answers-below ((answers-iff (polygon (orientation_of (corners s)) accepted) v a).1 (held-nearest is)))
 
           pub call-found : not (in_range v) ≡ false → {a b : NearestPoint} {n : ℕ} → a ≡ nearest (as_held o (corners s)) v
-              → n ≡ length (corners s) → b ≡ given_nearest o n a → Found b ≡ nearest_answer v s
+              → n ≡ length (corners s) → b ≡ given_nearest o n a → Ok b ≡ nearest_answer v s
           call-found all_in_range is counted named = sym ((answer-found _).1 (
             by-point ∙ rw all_in_range,
             named ∙ (λ i. given_nearest (found-is i) (counted i) (held-nearest is i)),

@@ -20,6 +20,7 @@ use mathlib.Core.List.{List, [], ◌∷◌, reverse, reverse-cons, reverse-appen
 use native.Mathlib.Omega.{arith}
 use lib.IntN.{ℤ}
 use lib.ListN.{length}
+use Rattle.std.specs.Prelude.{Ok}
 use Rattle.integers.specs.declared.fraction.Fraction.{Fraction}
 use Rattle.plane.specs.declared.Corner.{Corner}
 use Rattle.plane.specs.declared.Point.{Point}
@@ -33,7 +34,6 @@ use Rattle.outline.proofs.CornersLaws.{next-below, next-previous, previous-below
 use Rattle.outline.proofs.EdgeLaws.{accepted-polygon}
 use Rattle.outline.proofs.EitherLaws.{held-accepted, accepted-held}
 use Rattle.outline.proofs.OrientationLaws.{one-orientation}
-use Rattle.nearest.specs.declared.NearestAnswer.TheVariants.{Found}
 use Rattle.nearest.specs.declared.NearestPoint.{NearestPoint}
 use Rattle.nearest.specs.Call.{IsNearestAnswer}
 use Rattle.nearest.specs.Piece.{InPiece}
@@ -178,7 +178,7 @@ nearest-invariant v gap point cs = (
 )
 
 -- a nearest point is answered for a list that is accepted
-answered : {v : Corner} {s : List ℤ} {a : NearestPoint} → IsNearestAnswer v s (Found a) → Answered v s a
+answered : {v : Corner} {s : List ℤ} {a : NearestPoint} → IsNearestAnswer v s (Ok a) → Answered v s a
 answered {v} {s} {a} is = (nearest-answers v s a).0 (sym (nearest_answer-unique v s is))
 
 -- what is answered is the nearest point of the corners as held, with its feature named by the list as given
@@ -194,7 +194,7 @@ answered-nearest {v} {s} of =
 
 module _ (v : Corner) (s t : List ℤ) (a b : NearestPoint) where
   -- two answers have the same gap and the same point where the lists differ, as held, only in where they start
-  nearest-same : IsNearestAnswer v s (Found a) → IsNearestAnswer v t (Found b)
+  nearest-same : IsNearestAnswer v s (Ok a) → IsNearestAnswer v t (Ok b)
       → ((o q : Orientation) → AcceptedAs o s → AcceptedAs q t
       → SameCycle (as_held o (corners s)) (as_held q (corners t)))
       → (a.gap ≡ b.gap) × (a.point ≡ b.point)
@@ -208,10 +208,10 @@ module _ (v : Corner) (s t : List ℤ) (a b : NearestPoint) where
 
   -- the answer for a list that starts at another corner has the same gap and the same point
   pub nearest-start : (k : ℕ) → corners t ≡ starting_at k (corners s)
-      → IsNearestAnswer v s (Found a) → IsNearestAnswer v t (Found b) → (a.gap ≡ b.gap) × (a.point ≡ b.point)
+      → IsNearestAnswer v s (Ok a) → IsNearestAnswer v t (Ok b) → (a.gap ≡ b.gap) × (a.point ≡ b.point)
   nearest-start k is for-s for-t = nearest-same for-s for-t (λ o q ok-s ok-t. start-cycle ok-s ok-t k is)
 
   -- and so has the answer for one in the opposite order
   pub nearest-reversal : corners t ≡ reverse (corners s)
-      → IsNearestAnswer v s (Found a) → IsNearestAnswer v t (Found b) → (a.gap ≡ b.gap) × (a.point ≡ b.point)
+      → IsNearestAnswer v s (Ok a) → IsNearestAnswer v t (Ok b) → (a.gap ≡ b.gap) × (a.point ≡ b.point)
   nearest-reversal is for-s for-t = nearest-same for-s for-t (λ o q ok-s ok-t. reversal-cycle ok-s ok-t is)

@@ -2,7 +2,6 @@
 #![tactic(auto)]
 
 use integers::fraction::Fraction;
-use outline::Refusal;
 use plane::Point;
 
 // Rule 3.3, the nearest feature. `Within`: the point is in the piece. `Edge(i)`: strictly between the ends of edge i.
@@ -19,11 +18,4 @@ pub struct NearestPoint {
     pub feature: Feature,
     pub gap: Fraction,
     pub point: Point,
-}
-
-// What the call for the nearest point answers.
-#[derive(Clone, Copy)]
-pub enum NearestAnswer {
-    Found(NearestPoint),
-    Refused(Refusal),
 }

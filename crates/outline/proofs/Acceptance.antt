@@ -28,6 +28,8 @@ use native.Mathlib.Omega.{arith}
 use lib.Dec.{eqb}
 use lib.IntN.{ℤ}
 use lib.ListN.{length}
+use Rattle.std.specs.Prelude.{Option, None, Ok, Err}
+use Rattle.outline.specs.declared.Side.{Side}
 use Rattle.integers.proofs.Reflect.{test-not, test-and, test-stable, test-eqb, test-ltb}
 use Rattle.plane.specs.declared.Corner.{Corner}
 use Rattle.plane.specs.Range.{InRange}
@@ -37,16 +39,12 @@ use Rattle.plane.specs.code.Tests.{is_left}
 use Rattle.plane.proofs.Tests.{in_range-true, same_true, is_left-true}
 use Rattle.outline.specs.declared.Place.TheVariants.{Nowhere}
 use Rattle.outline.specs.declared.Refusal.{Refusal}
-use Rattle.outline.specs.declared.RefusedSide.{RefusedSide}
-use Rattle.outline.specs.declared.RefusedSide.TheVariants.{NoSide}
-use Rattle.outline.specs.declared.Verdict.{Verdict}
-use Rattle.outline.specs.declared.Verdict.TheVariants.{Taken, Refused}
 use Rattle.outline.specs.Conditions.{NotLeftOf, out_of_range, repeated, not_left, point_out_of_range, common_conditions}
 use Rattle.outline.specs.Conditions.{reading_conditions, AcceptedList}
 use Rattle.outline.specs.Convex.{AllInRange, LeftOf, StrictlyConvex, Accepted}
 use Rattle.outline.specs.Corners.{corners, corner, next, edge, fewest, most}
 use Rattle.outline.specs.code.Reading.{is_out_of_range, is_repeated, is_not_left}
-use Rattle.outline.specs.code.Checks.{first}
+use Rattle.outline.specs.code.Checks.{Verdict, first}
 use Rattle.outline.specs.code.Reading.{check_point, check_range, check_repeated, check_edge, check_convex}
 use Rattle.outline.specs.code.Reading.{length_checks, checks, check}
 use Rattle.outline.specs.Refusal.{Condition, Applies, FirstFault}
@@ -67,7 +65,7 @@ module _ (cs : List Corner) where
   out_of_range-true : (i : ℕ) → (is_out_of_range cs i ≡ true) ↔ (¬ InRange (corner cs i))
   out_of_range-true i = test-not (in_range (corner cs i)) (in_range-true (corner cs i))
 
-  pub range-decides : (whose : RefusedSide) → Decides (check_range whose cs) (out_of_range whose cs)
+  pub range-decides : (whose : Option Side) → Decides (check_range whose cs) (out_of_range whose cs)
   unfolding check_range
   range-decides whose = lowest-decides _ whose _ out_of_range-true n
 
@@ -77,7 +75,7 @@ module _ (cs : List Corner) where
     λ all i below out. out (all i below),
   )
 
-  pub range-taken : (whose : RefusedSide) → (check_range whose cs ≡ Taken) ↔ AllInRange cs
+  pub range-taken : (whose : Option Side) → (check_range whose cs ≡ Ok tt) ↔ AllInRange cs
   unfolding check_range
   range-taken whose = Iff.trans (tests-taken _ out_of_range-true _ n) all_in_range
 
@@ -85,7 +83,7 @@ module _ (cs : List Corner) where
   repeated-true : (i : ℕ) → (is_repeated cs i ≡ true) ↔ (corner cs i ≡ corner cs (next n i))
   repeated-true i = same_true (corner cs i) (corner cs (next n i))
 
-  repeated-decides : (whose : RefusedSide) → Decides (check_repeated whose cs) (repeated whose cs)
+  repeated-decides : (whose : Option Side) → Decides (check_repeated whose cs) (repeated whose cs)
   unfolding check_repeated
   repeated-decides whose = lowest-decides _ whose _ repeated-true n
 
@@ -109,11 +107,11 @@ module _ (cs : List Corner) where
       all : (is_not_left cs e c ≡ true) ↔ ((c ≢ e) × (c ≢ next n e)) × (¬ LeftOf cs e c)
       all = test-and _ _ (test-and _ _ (other-true c e) (other-true c (next n e))) (test-not (left e c) (left-true e c))
 
-  pub convex-decides : (whose : RefusedSide) → Decides (check_convex whose cs) (not_left whose cs)
+  pub convex-decides : (whose : Option Side) → Decides (check_convex whose cs) (not_left whose cs)
   unfolding check_convex check_edge
   convex-decides whose = edges-decide _ whose _ is_not_left-true n
 
-  pub convex-taken : (whose : RefusedSide) → (check_convex whose cs ≡ Taken) ↔ StrictlyConvex cs
+  pub convex-taken : (whose : Option Side) → (check_convex whose cs ≡ Ok tt) ↔ StrictlyConvex cs
   unfolding check_convex check_edge
   convex-taken whose = Iff.trans (edges-taken _ whose _ is_not_left-true n) (
     λ none e c e-below c-below not_start not_end.
@@ -123,14 +121,14 @@ module _ (cs : List Corner) where
         found.not_left (convex e c e-below c-below found.not_start found.not_end),
   )
 
-  pub not-left-none : (whose : RefusedSide) → (¬ Applies (not_left whose cs)) ↔ StrictlyConvex cs
+  pub not-left-none : (whose : Option Side) → (¬ Applies (not_left whose cs)) ↔ StrictlyConvex cs
   not-left-none whose = (
     λ none. (convex-taken whose).0 ((decides-taken (convex-decides whose)).1 none),
     λ convex. (decides-taken (convex-decides whose)).0 ((convex-taken whose).1 convex),
   )
 
   -- 5 and 6: three or more strictly convex corners have no equal neighbours
-  module _ (whose : RefusedSide) where
+  module _ (whose : Option Side) where
     abbrev shape_checks : List Verdict
     shape_checks = check_repeated whose cs ∷ check_convex whose cs ∷ []
 
@@ -147,12 +145,12 @@ module _ (cs : List Corner) where
           and (not-left-none whose).1 convex and tt,
     )
 
-    pub shape-taken : fewest ≤ n → (first shape_checks ≡ Taken) ↔ StrictlyConvex cs
+    pub shape-taken : fewest ≤ n → (first shape_checks ≡ Ok tt) ↔ StrictlyConvex cs
     shape-taken enough = Iff.trans (first_taken shape_checks shape_conditions shape-decide) (shape-none enough)
 
 -- ---- 7
 pub point-decides : (v : Corner) → Decides (check_point v) (point_out_of_range v)
-point-decides v = test-decides _ NoSide _ (test-not (in_range v) (in_range-true v))
+point-decides v = test-decides _ None _ (test-not (in_range v) (in_range-true v))
 
 pub point-in-range : (v : Corner) → ¬ Applies (point_out_of_range v) → InRange v
 point-in-range v = plain_stable (in_range v) (in_range-true v)
@@ -165,7 +163,7 @@ pub record Sized (s : List ℤ) : Type 0 where
   pub at_most : length (corners s) ≤ most
   pub all_in_range : AllInRange (corners s)
 
-module _ (whose : RefusedSide) (s : List ℤ) where
+module _ (whose : Option Side) (s : List ℤ) where
   abbrev cs : List Corner
   cs = corners s
 
@@ -205,7 +203,7 @@ module _ (whose : RefusedSide) (s : List ℤ) where
       (λ is. not-many (Nowhere, (refl, is))) ((all_in_range cs).0 ((lowest-none _ (out_of_range-true cs) _).0 none_out))
 
   -- where the checks 1 to 3 take
-  pub lengths-sized : first (length_checks whose s) ≡ Taken → AllInRange cs → Sized s
+  pub lengths-sized : first (length_checks whose s) ≡ Ok tt → AllInRange cs → Sized s
   lengths-sized lengths all =
       let (odd, rest) = (or_else-taken _ _).0 lengths in
       let (few, last) = (or_else-taken _ _).0 rest in
@@ -216,15 +214,15 @@ module _ (whose : RefusedSide) (s : List ℤ) where
       all
 
 -- ---- all checks
-module _ (whose : RefusedSide) (s : List ℤ) where
+module _ (whose : Option Side) (s : List ℤ) where
   pub checks-decide : AllDecide (checks whose s) (reading_conditions whose s)
   checks-decide = common-decide whose s _ _ (convex-decides (corners s) whose)
 
-  pub check-refused : (r : Refusal) → (check whose s ≡ Refused r) ↔ FirstFault (reading_conditions whose s) r
+  pub check-refused : (r : Refusal) → (check whose s ≡ Err r) ↔ FirstFault (reading_conditions whose s) r
   unfolding check
   check-refused = first-refused (checks whose s) (reading_conditions whose s) checks-decide
 
-  pub check-taken : (check whose s ≡ Taken) ↔ NoneApplies (reading_conditions whose s)
+  pub check-taken : (check whose s ≡ Ok tt) ↔ NoneApplies (reading_conditions whose s)
   unfolding check
   check-taken = first_taken (checks whose s) (reading_conditions whose s) checks-decide
 
@@ -250,7 +248,7 @@ module _ (whose : RefusedSide) (s : List ℤ) where
         (not-left-none (corners s) whose).1 ok.convex and tt,
       )
 
-  pub accepted : (check whose s ≡ Taken) ↔ AcceptedList s
+  pub accepted : (check whose s ≡ Ok tt) ↔ AcceptedList s
   accepted = Iff.trans check-taken none-accepted
 
 pub coordinates-accepted : (cs : List Corner) → AcceptedList (coordinates cs) ↔ Accepted cs

@@ -25,17 +25,18 @@ use mathlib.Core.Logic.Iff
 use mathlib.Core.Logic.{◌↔◌, ◌⊎◌, inl, inr, ⊎_elim, ⊎_map}
 use mathlib.Core.Bool.{Bool, true, ◌&&◌}
 use mathlib.Core.List.{List, [], ◌∷◌, ◌++◌}
+use Rattle.std.specs.Prelude.{Option, None, Ok, Err}
+use Rattle.outline.specs.declared.Side.{Side}
 use Rattle.integers.proofs.Reflect.{test-and, test-stable}
 use Rattle.lists.proofs.FirstLaws.{First}
+use Rattle.outline.specs.declared.Fault.{Fault}
+use Rattle.outline.specs.declared.Fault.TheVariants.{OddLength}
 use Rattle.outline.specs.declared.Place.{Place}
 use Rattle.outline.specs.declared.Place.TheVariants.{Nowhere, At, EdgeAndCorner}
 use Rattle.outline.specs.declared.Refusal.{Refusal}
-use Rattle.outline.specs.declared.RefusedSide.{RefusedSide}
-use Rattle.outline.specs.declared.RefusedSide.TheVariants.{NoSide}
-use Rattle.outline.specs.declared.Verdict.{Verdict}
-use Rattle.outline.specs.declared.Verdict.TheVariants.{Taken, Refused}
-use Rattle.outline.specs.code.Checks.{refuse_if, first, each}
+use Rattle.outline.specs.code.Checks.{Verdict, refuse_if, first, each}
 use Rattle.outline.specs.Conditions.{Lowest}
+use Rattle.outline.specs.Fault.{number}
 use Rattle.outline.specs.Refusal.{Condition, without_place, at_number, at_edge_and_corner, refusal, Gives, Applies}
 use Rattle.outline.specs.Refusal.{FirstFault}
 use Rattle.outline.proofs.ChecksLaws.{taken≢refused, not-refused, or_else-taken, or_else-refused}
@@ -48,9 +49,9 @@ a and b = (a, b)
 
 -- a check refuses exactly where its condition applies, and with the refusal that comes under it
 abbrev pub Decides : Verdict → Condition → Type 0
-Decides v c = (r : Refusal) → (v ≡ Refused r) ↔ Gives c r
+Decides v c = (r : Refusal) → (v ≡ Err r) ↔ Gives c r
 
-pub decides-taken : {v : Verdict} {c : Condition} → Decides v c → (v ≡ Taken) ↔ (¬ Applies c)
+pub decides-taken : {v : Verdict} {c : Condition} → Decides v c → (v ≡ Ok tt) ↔ (¬ Applies c)
 decides-taken {v} {c} decides = (
   λ takes (p, applies). taken≢refused takes ((decides (refusal c p)).1 (p, applies, refl)),
   λ none. not-refused v (λ r refuses. (let (p, applies, is) = (decides r).0 refuses in none (p, applies))),
@@ -70,7 +71,7 @@ NoneApplies (c ∷ cs) = (¬ Applies c) × NoneApplies cs
 
 -- rule 2.2: it comes only under its condition; where several apply, the first stands
 pub first-refused : (vs : List Verdict) (cs : List Condition) → AllDecide vs cs
-    → (r : Refusal) → (first vs ≡ Refused r) ↔ FirstFault cs r
+    → (r : Refusal) → (first vs ≡ Err r) ↔ FirstFault cs r
 first-refused [] [] decide r = (λ e. taken≢refused refl e, λ none. absurd none)
 first-refused [] (c ∷ cs) decide r = absurd decide
 first-refused (v ∷ vs) [] decide r = absurd decide
@@ -79,7 +80,7 @@ first-refused (v ∷ vs) (c ∷ cs) (decides, rest) r = Iff.trans (or_else-refus
   ⊎_map (decides r).1 (λ (none, fault). ((decides-taken decides).1 none, (first-refused vs cs rest r).1 fault)),
 )
 
-pub first_taken : (vs : List Verdict) (cs : List Condition) → AllDecide vs cs → (first vs ≡ Taken) ↔ NoneApplies cs
+pub first_taken : (vs : List Verdict) (cs : List Condition) → AllDecide vs cs → (first vs ≡ Ok tt) ↔ NoneApplies cs
 first_taken [] [] decide = (λ _. tt, λ _. refl)
 first_taken [] (c ∷ cs) decide = absurd decide
 first_taken (v ∷ vs) [] decide = absurd decide
@@ -119,7 +120,7 @@ fault-append (c ∷ cs) ds r = (
 -- what holds of the number of each condition that applies holds of a refusal's
 abbrev pub AllApplying : (ℕ → Type 0) → List Condition → Type 0
 AllApplying P [] = Unit {0}
-AllApplying P (c ∷ cs) = (Applies c → P c.number) × AllApplying P cs
+AllApplying P (c ∷ cs) = (Applies c → P (number c.fault)) × AllApplying P cs
 
 pub applying-append : (P : ℕ → Type 0) (cs ds : List Condition)
     → AllApplying P cs → AllApplying P ds → AllApplying P (cs ++ ds)
@@ -127,25 +128,25 @@ applying-append P [] ds all more = more
 applying-append P (c ∷ cs) ds (here, rest) more = (here, applying-append P cs ds rest more)
 
 pub fault-applying : (P : ℕ → Type 0) (cs : List Condition) (r : Refusal) → AllApplying P cs → FirstFault cs r
-    → P r.number
+    → P (number r.fault)
 fault-applying P [] r all fault = absurd fault
 fault-applying P (c ∷ cs) r (here, rest) fault = ⊎_elim
-    (λ (p, applies, is). subst (λ (q : Refusal). P q.number) is (here (p, applies)))
+    (λ (p, applies, is). subst (λ (q : Refusal). P (number q.fault)) is (here (p, applies)))
     (λ (none, later). fault-applying P cs r rest later) fault
 
 -- so a test that the number of each condition passes, a refusal's number passes
 abbrev pub all_numbers : (ℕ → Bool) → List Condition → Bool
 all_numbers test [] = true
-all_numbers test (c ∷ cs) = test c.number && all_numbers test cs
+all_numbers test (c ∷ cs) = test (number c.fault) && all_numbers test cs
 
 pub fault-number : (test : ℕ → Bool) (cs : List Condition) (r : Refusal)
-    → all_numbers test cs ≡ true → FirstFault cs r → test r.number ≡ true
+    → all_numbers test cs ≡ true → FirstFault cs r → test (number r.fault) ≡ true
 fault-number test cs r all fault = fault-applying (λ n. test n ≡ true) cs r (each_number cs all) fault
   where
     each_number : (cs : List Condition) → all_numbers test cs ≡ true → AllApplying (λ n. test n ≡ true) cs
     each_number [] all = tt
     each_number (c ∷ cs) all =
-        let (here, rest) = (test-and (test c.number) (all_numbers test cs) (λ e. e, λ e. e) (λ e. e, λ e. e)).0 all in
+        let (here, rest) = (test-and (test (number c.fault)) (all_numbers test cs) (λ e. e, λ e. e) (λ e. e, λ e. e)).0 all in
         (λ _. here, each_number cs rest)
 
 -- ---- a condition that applies nowhere, by what it says of the place
@@ -164,22 +165,22 @@ module _ {P : ℕ → Type 0} (t : ℕ → Bool) (means : (i : ℕ) → (t i ≡
   abbrev check : ℕ → Verdict
   check i = refuse_if (t i) (refusal_at i)
 
-  refuses-at : (i : ℕ) (r : Refusal) → (check i ≡ Refused r) ↔ ((refusal_at i ≡ r) × P i)
+  refuses-at : (i : ℕ) (r : Refusal) → (check i ≡ Err r) ↔ ((refusal_at i ≡ r) × P i)
   refuses-at i = refuse_if-refused (t i) (means i) (refusal_at i)
 
-  takes_at : (i : ℕ) → (check i ≡ Taken) ↔ (¬ P i)
+  takes_at : (i : ℕ) → (check i ≡ Ok tt) ↔ (¬ P i)
   takes_at i = refuse_if-taken (t i) (means i) (refusal_at i)
 
-  pub tests-taken : (each check n ≡ Taken) ↔ ((i : ℕ) → i < n → ¬ P i)
+  pub tests-taken : (each check n ≡ Ok tt) ↔ ((i : ℕ) → i < n → ¬ P i)
   tests-taken = Iff.trans (each-taken check n) (
     λ all i below. (takes_at i).0 (all i below),
     λ none i below. (takes_at i).1 (none i below),
   )
 
-  tests-refused : (r : Refusal) → (each check n ≡ Refused r) ↔ ((i : ℕ) × (refusal_at i ≡ r) × Lowest P n i)
+  tests-refused : (r : Refusal) → (each check n ≡ Err r) ↔ ((i : ℕ) × (refusal_at i ≡ r) × Lowest P n i)
   tests-refused r = Iff.trans (each-refused check n r) (there, back)
     where
-      there : First Taken check n (Refused r) → (i : ℕ) × (refusal_at i ≡ r) × Lowest P n i
+      there : First (Ok tt) check n (Err r) → (i : ℕ) × (refusal_at i ≡ r) × Lowest P n i
       there at = let (is, holds) = (refuses-at at.place r).0 at.here in (
         at.place,
         is,
@@ -190,7 +191,7 @@ module _ {P : ℕ → Type 0} (t : ℕ → Bool) (means : (i : ℕ) → (t i ≡
         },
       )
 
-      back : (i : ℕ) × (refusal_at i ≡ r) × Lowest P n i → First Taken check n (Refused r)
+      back : (i : ℕ) × (refusal_at i ≡ r) × Lowest P n i → First (Ok tt) check n (Err r)
       back (i, is, low) = record {
         place = i;
         below = low.below;
@@ -199,10 +200,10 @@ module _ {P : ℕ → Type 0} (t : ℕ → Bool) (means : (i : ℕ) → (t i ≡
       }
 
 -- ---- checks that decide a condition
-module _ (number : ℕ) (whose : RefusedSide) where
+module _ (fault : Fault) (whose : Option Side) where
   module _ {P : Type 0} (b : Bool) (means : (b ≡ true) ↔ P) where
     abbrev known : Place → Condition
-    known here = record { number = number; side = whose; applies = λ p. (p ≡ here) × P }
+    known here = record { fault = fault; side = whose; applies = λ p. (p ≡ here) × P }
 
     known-decides : (here : Place) → Decides (refuse_if b (refusal (known here) here)) (known here)
     known-decides here r = Iff.trans (refuse_if-refused b means (refusal (known here) here) r) (
@@ -218,7 +219,7 @@ module _ (number : ℕ) (whose : RefusedSide) where
 
   module _ {P : ℕ → Type 0} (t : ℕ → Bool) (means : (i : ℕ) → (t i ≡ true) ↔ P i) (n : ℕ) where
     abbrev numbered : Condition
-    numbered = record { number = number; side = whose; applies = at_number (Lowest P n) }
+    numbered = record { fault = fault; side = whose; applies = at_number (Lowest P n) }
 
     pub lowest-decides : Decides (each (λ i. refuse_if (t i) (refusal numbered (At i))) n) numbered
     lowest-decides r = Iff.trans (tests-refused t means (λ i. refusal numbered (At i)) n r) (
@@ -228,14 +229,14 @@ module _ (number : ℕ) (whose : RefusedSide) where
 
   module _ {P : ℕ → ℕ → Type 0} (t : ℕ → ℕ → Bool) (means : (e c : ℕ) → (t e c ≡ true) ↔ P e c) (n : ℕ) where
     -- some corner of edge e
-    abbrev Some : ℕ → Type 0
-    Some e = (c : ℕ) × (c < n) × P e c
+    abbrev SomeCorner : ℕ → Type 0
+    SomeCorner e = (c : ℕ) × (c < n) × P e c
 
     abbrev LowestPair : ℕ → ℕ → Type 0
-    LowestPair e c = Lowest Some n e × Lowest (P e) n c
+    LowestPair e c = Lowest SomeCorner n e × Lowest (P e) n c
 
     abbrev paired : Condition
-    paired = record { number = number; side = whose; applies = at_edge_and_corner LowestPair }
+    paired = record { fault = fault; side = whose; applies = at_edge_and_corner LowestPair }
 
     abbrev refusal_of : ℕ → ℕ → Refusal
     refusal_of e c = refusal paired (EdgeAndCorner e c)
@@ -244,13 +245,13 @@ module _ (number : ℕ) (whose : RefusedSide) where
     edge_check e = each (λ c. refuse_if (t e c) (refusal_of e c)) n
 
     -- an edge is taken exactly where no corner fails its test
-    edge-taken : (e : ℕ) → (edge_check e ≡ Taken) ↔ (¬ Some e)
+    edge-taken : (e : ℕ) → (edge_check e ≡ Ok tt) ↔ (¬ SomeCorner e)
     edge-taken e = Iff.trans (tests-taken (t e) (means e) (refusal_of e) n) (
       λ none (c, below, holds). none c below holds,
       λ none c below holds. none (c, below, holds),
     )
 
-    pub edges-taken : (each edge_check n ≡ Taken) ↔ ((e : ℕ) → e < n → ¬ Some e)
+    pub edges-taken : (each edge_check n ≡ Ok tt) ↔ ((e : ℕ) → e < n → ¬ SomeCorner e)
     edges-taken = Iff.trans (each-taken edge_check n) (
       λ all e below. (edge-taken e).0 (all e below),
       λ none e below. (edge-taken e).1 (none e below),
@@ -259,18 +260,18 @@ module _ (number : ℕ) (whose : RefusedSide) where
     pub edges-decide : Decides (each edge_check n) paired
     edges-decide r = Iff.trans (each-refused edge_check n r) (there, back)
       where
-        there : First Taken edge_check n (Refused r) → Gives paired r
+        there : First (Ok tt) edge_check n (Err r) → Gives paired r
         there at =
             let (c, is, low) =
             (tests-refused (t at.place) (means at.place) (refusal_of at.place) n r).0 at.here in
-            let lowest : Lowest Some n at.place = record {
+            let lowest : Lowest SomeCorner n at.place = record {
               below = at.below;
               here = (c, low.below, low.here);
               lowest = λ e lower. (edge-taken e).0 (at.earlier e lower);
             } in
             (EdgeAndCorner at.place c, (at.place, c, refl, (lowest, low)), is)
 
-        back : Gives paired r → First Taken edge_check n (Refused r)
+        back : Gives paired r → First (Ok tt) edge_check n (Err r)
         back (p, (e, c, here, (lowest, low)), is) = record {
           place = e;
           below = lowest.below;
@@ -282,6 +283,6 @@ module _ (number : ℕ) (whose : RefusedSide) where
 module _ {P : ℕ → Type 0} (t : ℕ → Bool) (means : (i : ℕ) → (t i ≡ true) ↔ P i) (n : ℕ) where
   pub lowest-none : (¬ ((p : Place) × at_number (Lowest P n) p)) ↔ ((i : ℕ) → i < n → ¬ P i)
   lowest-none = (
-    λ none. (tests-taken t means _ n).0 ((decides-taken (lowest-decides 0 NoSide t means n)).1 none),
+    λ none. (tests-taken t means _ n).0 ((decides-taken (lowest-decides OddLength None t means n)).1 none),
     λ none. nowhere-number (λ i low. none i low.below low.here),
   )

@@ -30,23 +30,21 @@ use native.Mathlib.Nat.{eq-or-lt_of_le}
 use native.Mathlib.Omega.{arith}
 use lib.IntN.{ℤ}
 use lib.ListN.{length}
+use Rattle.std.specs.Prelude.{Option, Result, Ok, Err}
+use Rattle.outline.specs.declared.Side.{Side}
 use Rattle.integers.proofs.Reflect.{test-false}
 use Rattle.plane.specs.declared.Corner.{Corner}
 use Rattle.outline.specs.declared.EitherReading.{EitherReading}
 use Rattle.outline.specs.declared.Orientation.{Orientation}
-use Rattle.outline.specs.declared.Outline.{Outline}
 use Rattle.outline.specs.declared.Orientation.TheVariants.{Counterclockwise, Clockwise}
 use Rattle.outline.specs.declared.Refusal.{Refusal}
-use Rattle.outline.specs.declared.RefusedSide.{RefusedSide}
-use Rattle.outline.specs.declared.Verdict.{Verdict}
-use Rattle.outline.specs.declared.Verdict.TheVariants.{Taken, Refused}
 use Rattle.outline.specs.Conditions.{fits_neither, common_conditions, either_conditions, AcceptedList}
 use Rattle.outline.specs.Convex.{AllInRange, StrictlyConvex, Accepted}
 use Rattle.outline.specs.Corners.{corners, held, fewest}
 use Rattle.outline.specs.EitherReading.{IsEitherReading, refused, taken}
 use Rattle.outline.specs.Orientation.{StrictlyClockwise, HasOrientation, reversed, as_held, AcceptedAs}
 use Rattle.outline.specs.Refusal.{Applies, FirstFault}
-use Rattle.outline.specs.code.Checks.{first, if_taken}
+use Rattle.outline.specs.code.Checks.{Verdict, first}
 use Rattle.outline.specs.code.Either.{orientation_of, held_corners, check_either_convex, either_checks, check_either}
 use Rattle.outline.specs.code.Either.{either_reading}
 use Rattle.outline.specs.code.Held.{IsOutline, corners_of}
@@ -54,7 +52,7 @@ use Rattle.outline.specs.code.Reading.{length_checks, check_convex}
 use Rattle.outline.specs.code.Turns.{is_convex}
 use Rattle.outline.proofs.Acceptance.{convex-decides, convex-taken, Sized, common-decide, common-none}
 use Rattle.outline.proofs.Acceptance.{not-left-none, common-sized, lengths-sized}
-use Rattle.outline.proofs.ChecksLaws.{taken≢refused}
+use Rattle.outline.proofs.ChecksLaws.{taken≢refused, answer-ok}
 use Rattle.outline.proofs.CornersLaws.{next-suc, next_last}
 use Rattle.outline.proofs.ConditionLaws.{◌and◌, Decides, AllDecide, decides-taken, first-refused, first_taken}
 use Rattle.outline.proofs.ConditionLaws.{NoneApplies, none-append}
@@ -138,7 +136,7 @@ few-convex cs few e c e-below c-below not_start not_end = absurd (⊎_elim
     (λ more. omega (arith, next-suc (length cs) e more))
     (eq-or-lt_of_le e-below))
 
-module _ (whose : RefusedSide) (cs : List Corner) where
+module _ (whose : Option Side) (cs : List Corner) where
   -- clockwise corners are strictly convex as held
   clockwise-held : StrictlyClockwise cs → StrictlyConvex (as_held (orientation_of cs) cs)
   clockwise-held right = elim (dec_lt (length cs) 3) [
@@ -157,7 +155,7 @@ module _ (whose : RefusedSide) (cs : List Corner) where
   either-convex-decides = go (is_convex (as_held (orientation_of cs) cs)) refl
     where
       go : (t : Bool) → is_convex (as_held (orientation_of cs) cs) ≡ t
-          → Decides (cond t Taken (check_convex whose cs)) (fits_neither whose cs)
+          → Decides (cond t (Ok tt) (check_convex whose cs)) (fits_neither whose cs)
       go true holds r = (
         λ e. absurd (taken≢refused refl e),
         λ (p, applies, is). absurd (fits_one (orientation_of cs)
@@ -172,11 +170,11 @@ module _ (whose : RefusedSide) (cs : List Corner) where
           )
 
 -- ---- all checks
-module _ (whose : RefusedSide) (s : List ℤ) where
+module _ (whose : Option Side) (s : List ℤ) where
   pub either-decide : AllDecide (either_checks whose s) (either_conditions whose s)
   either-decide = common-decide whose s _ _ (either-convex-decides whose (corners s))
 
-  pub either-refused : (r : Refusal) → (check_either whose s ≡ Refused r) ↔ FirstFault (either_conditions whose s) r
+  pub either-refused : (r : Refusal) → (check_either whose s ≡ Err r) ↔ FirstFault (either_conditions whose s) r
   unfolding check_either
   either-refused = first-refused (either_checks whose s) (either_conditions whose s) either-decide
 
@@ -199,7 +197,7 @@ module _ (whose : RefusedSide) (s : List ℤ) where
   fits-first enough none =
       go (is_convex (as_held (orientation_of cs) cs)) refl ((decides-taken (either-convex-decides whose cs)).1 none)
     where
-      go : (t : Bool) → is_convex (as_held (orientation_of cs) cs) ≡ t → cond t Taken (check_convex whose cs) ≡ Taken
+      go : (t : Bool) → is_convex (as_held (orientation_of cs) cs) ≡ t → cond t (Ok tt) (check_convex whose cs) ≡ Ok tt
           → HasOrientation (orientation_of cs) cs
       go true holds _ = (held-convex (orientation_of cs) cs).1 ((is_convex-true (as_held (orientation_of cs) cs)).0 holds)
       go false fails takes =
@@ -223,56 +221,61 @@ module _ (whose : RefusedSide) (s : List ℤ) where
         fits_one whose cs (orientation_of cs) ok.fits and tt,
       )
 
-  pub either-taken : (check_either whose s ≡ Taken) ↔ AcceptedAs (orientation_of cs) s
+  pub either-taken : (check_either whose s ≡ Ok tt) ↔ AcceptedAs (orientation_of cs) s
   unfolding check_either
   either-taken = Iff.trans (first_taken (either_checks whose s) (either_conditions whose s) either-decide) none-either
 
   -- a list that the code has checked, with the orientation that it then finds
-  pub checked-accepted : {u : Verdict} {o : Orientation} → u ≡ check_either whose s → u ≡ Taken → o ≡ orientation_of cs
+  pub checked-accepted : {u : Verdict} {o : Orientation} → u ≡ check_either whose s → u ≡ Ok tt → o ≡ orientation_of cs
       → AcceptedAs o s
   checked-accepted is takes found = rw found (either-taken.0 (sym is ∙ takes))
 
   -- whatever its orientation is
-  pub accepted-taken : (o : Orientation) → AcceptedAs o s → check_either whose s ≡ Taken
+  pub accepted-taken : (o : Orientation) → AcceptedAs o s → check_either whose s ≡ Ok tt
   accepted-taken o ok = either-taken.1 (rw (accepted-orientation o s ok) ok)
 
   -- three or more strictly convex corners have no equal neighbours, so 5 takes too
-  pub convex-either : first (length_checks whose s) ≡ Taken → AllInRange cs
-      → is_convex (as_held (orientation_of cs) cs) ≡ true → check_either whose s ≡ Taken
+  pub convex-either : first (length_checks whose s) ≡ Ok tt → AllInRange cs
+      → is_convex (as_held (orientation_of cs) cs) ≡ true → check_either whose s ≡ Ok tt
   convex-either lengths all convex =
       either-taken.1 (sized-accepted (lengths-sized whose s lengths all)
       ((held-convex (orientation_of cs) cs).1 ((is_convex-true (as_held (orientation_of cs) cs)).0 convex)))
+
+  -- what is read of a list that is taken
+  abbrev either_read : EitherReading
+  either_read = record { outline = held (held_corners s); orientation = orientation_of cs }
 
   pub is-either : IsEitherReading whose s (either_reading whose s)
   is-either = go (check_either whose s) refl
     where
       go : (v : Verdict) → check_either whose s ≡ v → IsEitherReading whose s (either_reading whose s)
-      go (Refused r) is = refused r ((either-refused r).0 is) (rw is)
-      go Taken is = taken (orientation_of cs) (either-taken.0 is) (rw is)
+      go (Err r) is = refused r ((either-refused r).0 is) (rw is)
+      go (Ok _) is = taken (orientation_of cs) (either-taken.0 is) (rw is)
 
-  pub either-promises : {result : EitherReading} → result ≡ either_reading whose s
+  pub either-promises : {result : Result EitherReading Refusal} → result ≡ either_reading whose s
       → (result ≡ either_reading whose s) × IsEitherReading whose s result
   either-promises is = (is, rw is is-either)
 
-  pub either-unique : {result : EitherReading} → IsEitherReading whose s result → result ≡ either_reading whose s
+  pub either-unique : {result : Result EitherReading Refusal} → IsEitherReading whose s result
+      → result ≡ either_reading whose s
   either-unique (refused r fault is) = rw (is, (either-refused r).1 fault)
   either-unique (taken o ok is) = rw (is, accepted-taken o ok, accepted-orientation o s ok)
 
-  module _ (is-taken : (either_reading whose s).verdict ≡ Taken) where
-    either-holds : (either_reading whose s).outline ≡ held (held_corners s)
-    either-holds = ap (λ (v : Verdict). if_taken v (held (held_corners s)) (held [])) is-taken
+  module _ {read : EitherReading} (is-read : either_reading whose s ≡ Ok read) where
+    either-holds : (read ≡ either_read) × AcceptedAs (orientation_of cs) s
+    either-holds = let (is, takes) = answer-ok (check_either whose s) is-read in (is, either-taken.0 takes)
 
-    pub either-outline : IsOutline (either_reading whose s).outline
-    either-outline = rw either-holds
-        (held-outline (held_corners s) (accepted-held (either-taken.0 is-taken)))
+    pub either-outline : IsOutline read.outline
+    either-outline = rw either-holds.0 (held-outline (held_corners s) (accepted-held either-holds.1))
 
-    pub either-orientation : (either_reading whose s).orientation ≡ orientation_of cs
-    either-orientation = ap (λ (v : Verdict). if_taken v (orientation_of cs) Counterclockwise) is-taken
+    pub either-orientation : read.orientation ≡ orientation_of cs
+    either-orientation = ap (λ (r : EitherReading). r.orientation) either-holds.0
 
     -- as many as the list gives
-    pub either-count : (either_reading whose s).outline.count ≡ length cs
+    pub either-count : read.outline.count ≡ length cs
     unfolding held
-    either-count = ap (λ (o : Outline). o.count) either-holds ∙ held-length (orientation_of cs) cs
+    either-count = ap (λ (r : EitherReading). r.outline.count) either-holds.0 ∙ held-length (orientation_of cs) cs
 
-    pub either-corners_of : corners_of (either_reading whose s).outline ≡ held_corners s
-    either-corners_of = ap corners_of either-holds ∙ corners_of-held (held_corners s)
+    pub either-corners_of : corners_of read.outline ≡ held_corners s
+    either-corners_of =
+        ap (λ (r : EitherReading). corners_of r.outline) either-holds.0 ∙ corners_of-held (held_corners s)

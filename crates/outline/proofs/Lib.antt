@@ -11,3 +11,4 @@ pub mod OrientationLaws
 pub mod HeldLaws
 pub mod ReadingLaws
 pub mod EitherLaws
+pub mod AcceptedLaws

@@ -1,13 +1,13 @@
 -- Rule 2.4: what is refused in reading, and 7, of a point. `whose` is the side that a refusal names.
-use Rattle.std.specs.Prelude.{ℕ, ◌<◌, ◌%◌, ◌≡◌, ◌≢◌, List, [], ◌∷◌, ◌++◌, ℤ, length}
+use Rattle.outline.specs.declared.Fault.TheVariants.{OddLength, TooFew, TooMany, OutOfRange, Repeated, NotLeft, PointOutOfRange}
+use Rattle.outline.specs.declared.Side.{Side}
+use Rattle.std.specs.Prelude.{ℕ, ◌<◌, ◌%◌, ◌≡◌, ◌≢◌, List, [], ◌∷◌, ◌++◌, ℤ, length, Option, None}
 use Rattle.plane.specs.declared.Corner.{Corner}
 use Rattle.plane.specs.Range.{InRange}
-use Rattle.outline.specs.declared.RefusedSide.{RefusedSide}
-use Rattle.outline.specs.declared.RefusedSide.TheVariants.{NoSide}
 use Rattle.outline.specs.Convex.{LeftOf, Accepted}
 use Rattle.outline.specs.Orientation.{StrictlyClockwise}
 use Rattle.outline.specs.Corners.{corners, corner, next, fewest, most}
-use Rattle.outline.specs.Refusal.{Condition, without_place, at_number, at_edge_and_corner}
+use Rattle.outline.specs.Refusal.{Condition, condition, without_place, at_number, at_edge_and_corner}
 
 -- i is the lowest number below n of which P holds
 pub record Lowest (P : ℕ → Type 0) (n i : ℕ) : Type 0 where
@@ -26,55 +26,42 @@ abbrev pub SomeNotLeftOf : List Corner → ℕ → Type 0
 SomeNotLeftOf cs e = (c : ℕ) × (c < length cs) × NotLeftOf cs e c
 
 -- 1, the list has an odd length
-abbrev pub odd_length : RefusedSide → List ℤ → Condition
-odd_length whose s = record { number = 1; side = whose; applies = without_place (length s % 2 ≡ 1) }
+abbrev pub odd_length : Option Side → List ℤ → Condition
+odd_length whose s = condition OddLength whose (without_place (length s % 2 ≡ 1))
 
 -- 2, fewer than 3 corners
-abbrev pub too_few : RefusedSide → List Corner → Condition
-too_few whose cs = record { number = 2; side = whose; applies = without_place (length cs < fewest) }
+abbrev pub too_few : Option Side → List Corner → Condition
+too_few whose cs = condition TooFew whose (without_place (length cs < fewest))
 
 -- 3, more than 256 corners
-abbrev pub too_many : RefusedSide → List Corner → Condition
-too_many whose cs = record { number = 3; side = whose; applies = without_place (most < length cs) }
+abbrev pub too_many : Option Side → List Corner → Condition
+too_many whose cs = condition TooMany whose (without_place (most < length cs))
 
 -- 4, a coordinate out of range; the place is the lowest such corner
-abbrev pub out_of_range : RefusedSide → List Corner → Condition
-out_of_range whose cs = record {
-  number = 4;
-  side = whose;
-  applies = at_number (Lowest (λ i. ¬ InRange (corner cs i)) (length cs));
-}
+abbrev pub out_of_range : Option Side → List Corner → Condition
+out_of_range whose cs =
+    condition OutOfRange whose (at_number (Lowest (λ i. ¬ InRange (corner cs i)) (length cs)))
 
 -- 5, a corner equal to the following one (the last against corner 0); the place is the lowest such corner
-abbrev pub repeated : RefusedSide → List Corner → Condition
-repeated whose cs = record {
-  number = 5;
-  side = whose;
-  applies = at_number (Lowest (λ i. corner cs i ≡ corner cs (next (length cs) i)) (length cs));
-}
+abbrev pub repeated : Option Side → List Corner → Condition
+repeated whose cs =
+    condition Repeated whose (at_number (Lowest (λ i. corner cs i ≡ corner cs (next (length cs) i)) (length cs)))
 
 -- 6, some corner is not strictly left of an edge; the place is the lowest such edge and then its lowest such corner
-abbrev pub not_left : RefusedSide → List Corner → Condition
-not_left whose cs = record {
-  number = 6;
-  side = whose;
-  applies = at_edge_and_corner (λ e c. Lowest (SomeNotLeftOf cs) (length cs) e × Lowest (NotLeftOf cs e) (length cs) c);
-}
+abbrev pub not_left : Option Side → List Corner → Condition
+not_left whose cs =
+    condition NotLeft whose (at_edge_and_corner (λ e c. Lowest (SomeNotLeftOf cs) (length cs) e × Lowest (NotLeftOf cs e) (length cs) c))
 
 -- 6 in the default reading: the corners fit neither orientation; the place is that of 6 in the strict reading
-abbrev pub fits_neither : RefusedSide → List Corner → Condition
-fits_neither whose cs = record {
-  number = 6;
-  side = whose;
-  applies = λ p. (¬ StrictlyClockwise cs) × (not_left whose cs).applies p;
-}
+abbrev pub fits_neither : Option Side → List Corner → Condition
+fits_neither whose cs = condition NotLeft whose (λ p. (¬ StrictlyClockwise cs) × (not_left whose cs).applies p)
 
 -- 7, the point out of range, in a call that takes a point
 abbrev pub point_out_of_range : Corner → Condition
-point_out_of_range v = record { number = 7; side = NoSide; applies = without_place (¬ InRange v) }
+point_out_of_range v = condition PointOutOfRange None (without_place (¬ InRange v))
 
 -- 1 to 5, in their order, which both readings have
-abbrev pub common_conditions : RefusedSide → List ℤ → List Condition
+abbrev pub common_conditions : Option Side → List ℤ → List Condition
 common_conditions whose s =
     odd_length whose s
     ∷ too_few whose (corners s)
@@ -84,11 +71,11 @@ common_conditions whose s =
     ∷ []
 
 -- all six of the strict reading
-abbrev pub reading_conditions : RefusedSide → List ℤ → List Condition
+abbrev pub reading_conditions : Option Side → List ℤ → List Condition
 reading_conditions whose s = common_conditions whose s ++ (not_left whose (corners s) ∷ [])
 
 -- all six of the default reading
-abbrev pub either_conditions : RefusedSide → List ℤ → List Condition
+abbrev pub either_conditions : Option Side → List ℤ → List Condition
 either_conditions whose s = common_conditions whose s ++ (fits_neither whose (corners s) ∷ [])
 
 -- the strict reading accepts the list: its length is even and its corners are accepted

@@ -2,6 +2,7 @@
 pub mod Corners
 pub mod Convex
 pub mod Orientation
+pub mod Fault
 pub mod Refusal
 pub mod Conditions
 pub mod Reading

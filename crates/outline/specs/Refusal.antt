@@ -1,15 +1,20 @@
 -- Refusals: a call has conditions in an order, and the first that applies stands.
-use Rattle.std.specs.Prelude.{ℕ, ◌≡◌, ◌⊎◌, List, [], ◌∷◌}
+use Rattle.outline.specs.declared.Side.{Side}
+use Rattle.std.specs.Prelude.{ℕ, ◌≡◌, ◌⊎◌, List, [], ◌∷◌, Option, Result, ⊤}
+use Rattle.outline.specs.declared.Fault.{Fault}
 use Rattle.outline.specs.declared.Place.{Place}
 use Rattle.outline.specs.declared.Place.TheVariants.{Nowhere, At, EdgeAndCorner}
 use Rattle.outline.specs.declared.Refusal.{Refusal}
-use Rattle.outline.specs.declared.RefusedSide.{RefusedSide}
 
--- what a refusal comes under: its number, the side that it is about, and the places at which it applies
+-- what a refusal comes under: its fault, the side that it is about, and the places at which it applies
 pub record Condition : Type 1 where
-  pub number : ℕ
-  pub side : RefusedSide
+  pub fault : Fault
+  pub side : Option Side
   pub applies : Place → Type 0
+
+-- a condition, by its three parts
+abbrev pub condition : Fault → Option Side → (Place → Type 0) → Condition
+condition fault side applies = record { fault = fault; side = side; applies = applies }
 
 -- P holds; there is no place
 abbrev pub without_place : Type 0 → Place → Type 0
@@ -27,9 +32,9 @@ at_number P p = (i : ℕ) × (p ≡ At i) × P i
 abbrev pub at_edge_and_corner : (ℕ → ℕ → Type 0) → Place → Type 0
 at_edge_and_corner P p = (e : ℕ) × (c : ℕ) × (p ≡ EdgeAndCorner e c) × P e c
 
--- rule 2.1: the condition's number and side, with a place
+-- rule 2.1: the condition's fault and side, with a place
 abbrev pub refusal : Condition → Place → Refusal
-refusal c p = record { number = c.number; side = c.side; place = p }
+refusal c p = record { fault = c.fault; side = c.side; place = p }
 
 -- the refusal comes under the condition: it is the condition's, at a place at which that applies
 abbrev pub Gives : Condition → Refusal → Type 0

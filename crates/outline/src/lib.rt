@@ -1,6 +1,9 @@
 // An outline as a value, and what is refused and why.
 #![tactic(auto)]
 
+ghost use Rattle.std.specs.Prelude.{◌≡◌};
+ghost use Rattle.outline.specs.Fault.{number};
+
 use plane::Corner;
 
 // How few and how many corners an outline can have.
@@ -22,13 +25,6 @@ pub enum Side {
     B,
 }
 
-// The side of a refusal: none in a call with one outline.
-#[derive(Clone, Copy)]
-pub enum RefusedSide {
-    NoSide,
-    Of(Side),
-}
-
 // The place of a refusal: none, one number, or an edge and a corner.
 #[derive(Clone, Copy)]
 pub enum Place {
@@ -37,26 +33,51 @@ pub enum Place {
     EdgeAndCorner(usize, usize),
 }
 
-// Rule 2.1, a refusal.
+// Rule 2.4, why a call refuses, in the order of their numbers.
+#[derive(Clone, Copy, PartialEq, Eq)]
+pub enum Fault {
+    OddLength,
+    TooFew,
+    TooMany,
+    OutOfRange,
+    Repeated,
+    NotLeft,
+    PointOutOfRange,
+    NoSuchCorner,
+    WrongLength,
+    PartialRecord,
+    ChainTooLong,
+    NoSuchRecord,
+}
+
+// The number that a fault has.
+impl From<Fault> for u32 {
+    ghost from_gives = { λ f n. n ≡ number f };
+
+    fn from(fault: Fault) -> u32 {
+        match fault {
+            Fault::OddLength => 1,
+            Fault::TooFew => 2,
+            Fault::TooMany => 3,
+            Fault::OutOfRange => 4,
+            Fault::Repeated => 5,
+            Fault::NotLeft => 6,
+            Fault::PointOutOfRange => 7,
+            Fault::NoSuchCorner => 8,
+            Fault::WrongLength => 9,
+            Fault::PartialRecord => 10,
+            Fault::ChainTooLong => 11,
+            Fault::NoSuchRecord => 12,
+        }
+    }
+}
+
+// Rule 2.1, a refusal. It has no side in a call with one outline.
 #[derive(Clone, Copy)]
 pub struct Refusal {
-    pub number: u32,
-    pub side: RefusedSide,
+    pub fault: Fault,
+    pub side: Option<Side>,
     pub place: Place,
-}
-
-// Whether a call, or one of its checks, takes what it is handed.
-#[derive(Clone, Copy)]
-pub enum Verdict {
-    Taken,
-    Refused(Refusal),
-}
-
-// What the strict reading of a list gives: the outline, or the refusal and an outline without corners.
-#[derive(Clone, Copy)]
-pub struct Reading {
-    pub verdict: Verdict,
-    pub outline: Outline,
 }
 
 // Rule 1.9, how the corners of a list go round.
@@ -66,11 +87,9 @@ pub enum Orientation {
     Clockwise,
 }
 
-// What the default reading of a list gives: the outline as it is held, and the orientation of the list; or the refusal,
-// an outline without corners, and Counterclockwise.
+// What the default reading of a list gives: the outline as it is held, and the orientation of the list.
 #[derive(Clone, Copy)]
 pub struct EitherReading {
-    pub verdict: Verdict,
     pub outline: Outline,
     pub orientation: Orientation,
 }

@@ -4,47 +4,35 @@
 // way, what is to be printed.
 #![tactic(auto)]
 
+ghost use Rattle.std.specs.Prelude.{◌<◌, IfOk, length};
+
+use case_input::{Cursor, LONGEST};
 use case_lines::comparison;
 use std::io;
 
-// Compares two lists with each of the allowances, which stand at a place of the input. Gives the place after them.
-fn compare_each(rt: &impl Print, s: &[u8], from: usize, a: &[i32], b: &[i32]) -> io::Result<usize> {
-    let count = case_input::read_number(s, from);
-    let mut next = count.next;
-    for _ in 0..count.size {
-        let allowance = case_input::read_number(s, next);
-        comparison::print_comparison(rt, calls::compare(a, b, allowance.size))?;
-        next = allowance.next;
+// Compares the pair that is next with each of its allowances.
+fn compare_pair(rt: &impl Print, pair: &mut Cursor) -> io::Result<()>
+    ensures { IfOk result (λ _. 0 < length pair.old → length pair.new < length pair.old) }
+{
+    let mut a_room = [0; LONGEST];
+    let mut b_room = [0; LONGEST];
+    let a = pair.list(&mut a_room);
+    let b = pair.list(&mut b_room);
+    for _ in 0..pair.natural() {
+        comparison::print_comparison(rt, calls::compare(a, b, pair.natural()))?;
     }
-    Ok(next)
+    Ok(())
 }
 
-// Compares the pair at a place of the input. Gives the place after it.
-fn compare_pair(rt: &impl Print, s: &[u8], from: usize) -> io::Result<usize> {
-    let a = case_input::read_list(s, from);
-    let b = case_input::read_list(s, a.next);
-    let acount = a.count;
-    let bcount = b.count;
-    let aitems = a.items;
-    let bitems = b.items;
-    compare_each(rt, s, b.next, &aitems[..acount], &bitems[..bcount])
-}
-
-// Goes on only while the place in the input grows.
-fn compare_pairs(rt: &impl Print, s: &[u8]) -> io::Result<()> {
-    let mut place = 0;
-    while place < s.len() {
-        let next = compare_pair(rt, s, place)?;
-        if next <= place {
-            break;
-        }
-        place = next;
+fn compare_pairs(rt: &impl Print, pairs: &mut Cursor) -> io::Result<()> {
+    while !pairs.is_at_end() {
+        compare_pair(rt, pairs)?;
     }
     Ok(())
 }
 
 fn main(rt: HostRuntime) -> io::Result<()> {
-    let mut text = case_input::room();
-    let count = standard_input::read_full(&rt, &mut text)?;
-    compare_pairs(&rt, &text[..count])
+    let mut room = case_input::room();
+    let count = standard_input::read_full(&rt, &mut room)?;
+    compare_pairs(&rt, &mut Cursor::new(&room[..count]))
 }

@@ -1,54 +1,26 @@
 -- The functions of `plane` compute exactly in 64 bits. For an expression of the code, as a goal shows it, `-fits`
--- says that its result fits an i64, `-exact` that the result, read back, is the number that a contract names, and
--- `-is` both with a bound.
---     cast_fits, cast-exact                 a coordinate, cast to i64
---     difference-fits, difference-exact     of two coordinates
---     product-fits                          of two components within reach
---     minus-fits, plus-fits                 of two such products
+-- says that its result fits an i64, and `-is` that the result, read back, is the number that a contract names, with a
+-- bound.
+--     minus-fits, plus-fits                 of two products of components within reach
 --     cross-is, dot-is                      the products of two vectors within reach
 --     cross-local, dot-local                the same as a caller of `cross`, `dot`, `squared_length` has it in a local
 -- Every hypothesis shows its numbers, so that `search` finds it in what a need is handed.
 use mathlib.Core.Path.{◌≡◌}
-use Prim.Native.Nat.{◌*◌, ◌^◌}
+use Prim.Native.Nat.{◌*◌}
 use lib.IntN.{ℤ, ◌+ℤ◌, ◌-ℤ◌, ◌*ℤ◌}
-use mir.Syntax.{w32, w64}
+use mir.Syntax.{w64}
 use mir.Val.{SFits}
 use Rattle.integers.specs.Size.{AtMost}
-use Rattle.integers.proofs.Machine.{i32, i64, Exact, value, field, stored, plus, minus, times, fits}
+use Rattle.integers.proofs.Machine.{i64, Exact, value, stored, plus, minus, times, fits}
 use Rattle.plane.specs.code.Range.{Span, reach, product_limit}
 use Rattle.plane.specs.Vector.{cross, dot}
 use Rattle.plane.specs.declared.Vector.{Vector}
-
--- differences
-
-pub cast_fits : {z : ℤ} → SFits w32 z → SFits w64 (i32 z)
-cast_fits h = fits (field h) tt
-
-pub cast-exact : {z : ℤ} → SFits w32 z → i64 (i32 z) ≡ z
-cast-exact h = (stored w64 (field h) tt).exact
-
-abbrev pub difference64 : ℤ → ℤ → ℤ
-difference64 y z = i64 (i32 y) -ℤ i64 (i32 z)
-
-difference-is : {y z : ℤ} → SFits w32 y → SFits w32 z → Exact (2 ^ 32) (y -ℤ z) (difference64 y z)
-difference-is h k = minus (stored w64 (field h) tt) (stored w64 (field k) tt)
-
-pub difference-fits : {y z : ℤ} → SFits w32 y → SFits w32 z → SFits w64 (difference64 y z)
-difference-fits h k = fits (difference-is h k) tt
-
-pub difference-exact : {y z : ℤ} → SFits w32 y → SFits w32 z → i64 (difference64 y z) ≡ y -ℤ z
-difference-exact h k = (stored w64 (difference-is h k) tt).exact
-
--- products
 
 abbrev pub product64 : ℤ → ℤ → ℤ
 product64 y z = i64 (i64 y *ℤ i64 z)
 
 product_is : {y z : ℤ} → AtMost reach y → AtMost reach z → Exact (reach * reach) (y *ℤ z) (i64 y *ℤ i64 z)
 product_is h k = times (stored w64 (value h) tt) (stored w64 (value k) tt)
-
-pub product-fits : {y z : ℤ} → AtMost reach y → AtMost reach z → SFits w64 (i64 y *ℤ i64 z)
-product-fits h k = fits (product_is h k) tt
 
 product : {y z : ℤ} → AtMost reach y → AtMost reach z → Exact (reach * reach) (y *ℤ z) (product64 y z)
 product h k = stored w64 (product_is h k) tt

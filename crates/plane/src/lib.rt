@@ -3,15 +3,14 @@
 
 ghost use Rattle.std.specs.Prelude.{◌≡◌};
 ghost use Rattle.plane.specs.Vector.{◌⇀◌, cross, dot};
-ghost use Rattle.plane.specs.code.Tests.{is_left, is_right, same, is_lower};
+ghost use Rattle.plane.specs.code.Tests.{is_left, is_right, is_lower};
 ghost use Rattle.plane.specs.code.Turn.{turns_left};
-ghost use Rattle.integers.specs.Equal.{eq_z};
 ghost use Rattle.plane.specs.Point.{whole};
 ghost use Rattle.plane.specs.Range.{InRange};
 ghost use Rattle.plane.specs.code.Range.{Span, reach, is_coordinate, in_range};
 
 // A point with whole coordinates; a corner of an outline.
-#[derive(Clone, Copy)]
+#[derive(Clone, Copy, Debug, PartialEq, Eq)]
 pub struct Corner {
     pub x: i32,
     pub y: i32,
@@ -33,13 +32,15 @@ pub struct Point {
 }
 
 // A point with whole coordinates, as a point over 1.
-pub fn whole(p: Corner) -> Point
-    ensures { result ≡ whole p }
-{
-    Point {
-        x: p.x as i64,
-        y: p.y as i64,
-        lower: 1,
+impl From<Corner> for Point {
+    ghost from_gives = { λ p result. result ≡ whole p };
+
+    fn from(p: Corner) -> Point {
+        Point {
+            x: i64::from(p.x),
+            y: i64::from(p.y),
+            lower: 1,
+        }
     }
 }
 
@@ -47,13 +48,9 @@ pub fn whole(p: Corner) -> Point
 pub fn difference(p: Corner, q: Corner) -> Vector
     ensures { result ≡ p ⇀ q }
 {
-    let px = p.x as i64;
-    let py = p.y as i64;
-    let qx = q.x as i64;
-    let qy = q.y as i64;
     Vector {
-        x: qx - px,
-        y: qy - py,
+        x: i64::from(q.x) - i64::from(p.x),
+        y: i64::from(q.y) - i64::from(p.y),
     }
 }
 
@@ -113,40 +110,25 @@ pub fn is_right(from: Corner, run: Vector, v: Corner) -> bool
 }
 
 // The largest size of a coordinate.
-const LIMIT: i32 = 16000;
+const LIMIT: u32 = 16000;
 
 fn is_coordinate(z: i32) -> bool
     ensures { result ≡ is_coordinate z }
 {
-    if z < -LIMIT {
-        return false;
-    }
-    z <= LIMIT
+    z.unsigned_abs() <= LIMIT
 }
 
 // Whether a point's coordinates are in range.
+#[tactic(auto, unfolding(crate::specs::code::Range::in_range))]
 pub fn in_range(p: Corner) -> bool
     ensures { result ≡ in_range p }
 {
     is_coordinate(p.x) && is_coordinate(p.y)
 }
 
-fn equal(a: i32, b: i32) -> bool
-    ensures { result ≡ eq_z a b }
-{
-    a == b
-}
-
-// Whether two points are the same.
-pub fn same(p: Corner, q: Corner) -> bool
-    ensures { result ≡ same p q }
-{
-    equal(p.x, q.x) && equal(p.y, q.y)
-}
-
 // Whether p is lower than q or, at the same height, left of it.
 pub fn is_lower(p: Corner, q: Corner) -> bool
     ensures { result ≡ is_lower p q }
 {
-    if p.y == q.y { p.x < q.x } else { p.y < q.y }
+    (p.y, p.x) < (q.y, q.x)
 }

@@ -11,7 +11,7 @@
 --     vectors-span         they are in reach
 --     Turn                 what is read: the ends of edge i and the corners before and after them
 --     turn-read            they are read as they are held
---     turn-range, turn-right    they are in range, and v is right of the edge
+--     turn-right           v is right of the edge
 --     turn-answer          so what edge i has goes by its part
 use Prim.Native.Nat.{ℕ, ◌+◌, ◌<◌, ◌≤◌}
 use mathlib.Core.Path.{◌≡◌, refl, sym, ap, subst, ◌∙◌}
@@ -24,6 +24,8 @@ use native.Mathlib.Omega.{arith}
 use lib.IntN.{pos}
 use lib.ListN.{length}
 use lib.Signed.{◌<ℤ◌}
+use Rattle.std.specs.Prelude.{Option, Some, None}
+use Rattle.std.proofs.lemmas.Option.{none-some, same_Some}
 use Rattle.integers.proofs.Order.{<ℤ-lt_z, lt_z-true}
 use Rattle.plane.specs.declared.Corner.{Corner}
 use Rattle.plane.specs.declared.Vector.{Vector}
@@ -38,13 +40,11 @@ use Rattle.outline.specs.code.Polygon.{Polygon}
 use Rattle.outline.specs.Convex.{AllInRange, Accepted}
 use Rattle.outline.specs.Corners.{corner, next, previous}
 use Rattle.outline.proofs.EdgeLaws.{accepted-polygon}
-use Rattle.outline.proofs.CornersLaws.{before-below, after-below, previous-below, next-suc, next-previous, previous-next}
+use Rattle.outline.proofs.CornersLaws.{after-below, previous-below, next-suc, next-previous, previous-next}
 use Rattle.nearest.specs.declared.Feature.{Feature}
 use Rattle.nearest.specs.declared.NearestPoint.{NearestPoint}
-use Rattle.projection.specs.declared.EdgeAnswer.{EdgeAnswer}
-use Rattle.projection.specs.declared.EdgeAnswer.TheVariants.{NotHere, Here}
 use Rattle.projection.specs.declared.local.Part.{Part}
-use Rattle.projection.specs.declared.local.Part.TheVariants.{None, Start, Between, End}
+use Rattle.projection.specs.declared.local.Part.TheVariants.{Start, Between, End}
 use Rattle.nearest.specs.Feature.{values, within_values}
 use Rattle.nearest.specs.code.Local.{foot_is_between, corner_is_nearest, edge_is_nearest, is_corner, Tested, feature, nearest}
 use Rattle.projection.specs.Part.{nearest_part}
@@ -60,11 +60,11 @@ module _ (v before p q after : Corner) where
     pub not_start : corner_is_nearest v before p q ≡ false
     pub not_end : corner_is_nearest v p q after ≡ false
 
-  abbrev pub Means : Part → Type 0
+  abbrev pub Means : Option Part → Type 0
   Means None = is_right p (p ⇀ q) v ≡ true → NoPart
-  Means Start = corner_is_nearest v before p q ≡ true
-  Means Between = edge_is_nearest v p q ≡ true
-  Means End = corner_is_nearest v p q after ≡ true
+  Means (Some Start) = corner_is_nearest v before p q ≡ true
+  Means (Some Between) = edge_is_nearest v p q ≡ true
+  Means (Some End) = corner_is_nearest v p q after ≡ true
 
   pub part-means : Means (nearest_part v before p q after)
   part-means =
@@ -72,7 +72,7 @@ module _ (v before p q after : Corner) where
       refl refl refl refl
     where
       by_tests : (r b s e : Bool) → is_right p (p ⇀ q) v ≡ r → foot_is_between v p q ≡ b → corner_is_nearest v before p q ≡ s
-          → corner_is_nearest v p q after ≡ e → Means (cond r (cond b Between (cond s Start (cond e End None))) None)
+          → corner_is_nearest v p q after ≡ e → Means (cond r (cond b (Some Between) (cond s (Some Start) (cond e (Some End) None))) None)
       by_tests false b s e right between start end = λ holds. absurd (true≢false (sym holds ∙ right))
       by_tests true true s e right between start end = rw (right, between)
       by_tests true false true e right between start end = start
@@ -100,36 +100,29 @@ module _ (cs : List Corner) (v : Corner) where
       let right = <ℤ-lt_z ((edge_test v _ _).0 holds).0 in
       absurd (true≢false (sym holds ∙ (none i below right).not-between))
 
--- an edge has the nearest point or not, and only one
-here-not : {a : NearestPoint} → Here a ≡ NotHere → ⊥
-here-not e = let z : ◌≡◌ {A = ℕ} 0 1 = cc in omega arith
-
-same_here : {a b : NearestPoint} → Here a ≡ Here b → b ≡ a
-same_here e = cc
-
 module _ (cs : List Corner) (v : Corner) (i : ℕ) where
   -- the part that is found says which tests hold
-  means : (r : Part) → part_at cs v i ≡ r
+  means : (r : Option Part) → part_at cs v i ≡ r
       → (let n = length cs in
       Means v (corner cs (previous n i)) (corner cs i) (corner cs (next n i)) (corner cs (next n (next n i))) r)
   means r e = subst (Means v _ _ _ _) e (part-means v _ _ _ _)
 
   -- nothing is found: no part is nearest
-  pub at-not-here : at_edge cs v i ≡ NotHere → NoPartAt cs v i
+  pub at-not-here : at_edge cs v i ≡ None → NoPartAt cs v i
   unfolding at_edge
   at-not-here = go (part_at cs v i) refl
     where
       j : ℕ
       j = next (length cs) i
 
-      go : (r : Part) → part_at cs v i ≡ r → edge_answer_for v i j (corner cs i) (corner cs j) r ≡ NotHere → NoPartAt cs v i
+      go : (r : Option Part) → part_at cs v i ≡ r → edge_answer_for v i j (corner cs i) (corner cs j) r ≡ None → NoPartAt cs v i
       go None e nothing = means None e
-      go Start e nothing = absurd (here-not nothing)
-      go Between e nothing = absurd (here-not nothing)
-      go End e nothing = absurd (here-not nothing)
+      go (Some Start) e nothing = absurd (none-some _ (sym nothing))
+      go (Some Between) e nothing = absurd (none-some _ (sym nothing))
+      go (Some End) e nothing = absurd (none-some _ (sym nothing))
 
   -- what is found is the nearest point, since only one feature's test holds
-  pub at_here : {a : NearestPoint} → Polygon cs → i < length cs → at_edge cs v i ≡ Here a → a ≡ nearest cs v
+  pub at_here : {a : NearestPoint} → Polygon cs → i < length cs → at_edge cs v i ≡ Some a → a ≡ nearest cs v
   unfolding at_edge
   at_here {a} polygon known = go (part_at cs v i) refl
     where
@@ -139,13 +132,13 @@ module _ (cs : List Corner) (v : Corner) (i : ℕ) where
       found : (f : Feature) → Tested cs v f → values cs v f ≡ nearest cs v
       found f holds = ap (values cs v) (sym ((feature-iff polygon v f).1 holds))
 
-      go : (r : Part) → part_at cs v i ≡ r → edge_answer_for v i j (corner cs i) (corner cs j) r ≡ Here a → a ≡ nearest cs v
-      go None e is = absurd (here-not (sym is))
-      go Start e is = same_here is ∙ found (Feature.Corner i) (known, means Start e)
-      go Between e is = same_here is ∙ found (Feature.Edge i) (known, means Between e)
-      go End e is =
-          let holds : is_corner cs v j ≡ true = rw (previous-next (length cs) i known) (means End e) in
-          same_here is ∙ found (Feature.Corner j) (after-below refl known, holds)
+      go : (r : Option Part) → part_at cs v i ≡ r → edge_answer_for v i j (corner cs i) (corner cs j) r ≡ Some a → a ≡ nearest cs v
+      go None e is = absurd (none-some _ is)
+      go (Some Start) e is = sym (same_Some _ _ is) ∙ found (Feature.Corner i) (known, means (Some Start) e)
+      go (Some Between) e is = sym (same_Some _ _ is) ∙ found (Feature.Edge i) (known, means (Some Between) e)
+      go (Some End) e is =
+          let holds : is_corner cs v j ≡ true = rw (previous-next (length cs) i known) (means (Some End) e) in
+          sym (same_Some _ _ is) ∙ found (Feature.Corner j) (after-below refl known, holds)
 
 -- v is strictly right of the edge from p to q: seen from v, p is to the left of q
 right-iff : (v p q : Corner) → (turns_left (v ⇀ q) (v ⇀ p) ≡ true) ↔ (is_right p (p ⇀ q) v ≡ true)
@@ -157,7 +150,7 @@ right-iff v p q = (
 
 module _ {cs : List Corner} {v : Corner} {i : ℕ} {to_start to_end : Vector} (seen : EdgeVectors cs v i to_start to_end) where
   -- so where it is not, there is nothing to find
-  pub vectors-not-here : turns_left to_end to_start ≡ false → NotHere ≡ at_edge cs v i
+  pub vectors-not-here : turns_left to_end to_start ≡ false → None ≡ at_edge cs v i
   unfolding at_edge
   vectors-not-here not_left = rw not_right
     where
@@ -209,9 +202,9 @@ module _ {cs : List Corner} {v : Corner} {n i : ℕ} {to_start : Vector} (pass :
       end = rw (following, pass.counted) at end;
     }
 
-    module _ {found : EdgeAnswer} (is : found ≡ at_edge cs v i) where
+    module _ {found : Option NearestPoint} (is : found ≡ at_edge cs v i) where
       -- nothing is found there: the next edge begins where this one ends
-      pub pass_on : found ≡ NotHere → Passing cs v n (i + 1) to_end
+      pub pass_on : found ≡ None → Passing cs v n (i + 1) to_end
       pass_on nothing = record {
         counted = pass.counted;
         none = λ k below. elim (ℕ_discrete k i) [
@@ -221,11 +214,10 @@ module _ {cs : List Corner} {v : Corner} {n i : ℕ} {to_start : Vector} (pass :
         start = λ more. rw (end, following, next-suc n i (omega arith), add-one);
       }
 
-      pub pass-here : {a : NearestPoint} → Accepted cs → found ≡ Here a → a ≡ nearest cs v
+      pub pass-here : {a : NearestPoint} → Accepted cs → found ≡ Some a → a ≡ nearest cs v
       pass-here ok here = at_here cs v i (accepted-polygon ok) pass-vectors.known (sym is ∙ here)
 
 pub record Turn (cs : List Corner) (i j : ℕ) (before p q after : Corner) : Type 0 where
-  pub ok : Accepted cs
   pub known : i < length cs
   pub following : j ≡ next (length cs) i
   pub before_is : before ≡ corner cs (previous (length cs) i)
@@ -233,11 +225,10 @@ pub record Turn (cs : List Corner) (i j : ℕ) (before p q after : Corner) : Typ
   pub end_is : q ≡ corner cs j
   pub after_is : after ≡ corner cs (next (length cs) j)
 
-pub turn-read : {cs : List Corner} {n i j b a : ℕ} {before p q after : Corner} → Accepted cs → n ≡ length cs → i < n
+pub turn-read : {cs : List Corner} {n i j b a : ℕ} {before p q after : Corner} → n ≡ length cs → i < n
     → j ≡ next n i → b ≡ previous n i → a ≡ next n j → before ≡ corner cs b → p ≡ corner cs i → q ≡ corner cs j
     → after ≡ corner cs a → Turn cs i j before p q after
-turn-read ok counted known j-is b-is a-is before_is start_is end_is after_is = record {
-  ok = ok;
+turn-read counted known j-is b-is a-is before_is start_is end_is after_is = record {
   known = omega arith;
   following = rw counted at j-is;
   before_is = rw (b-is, counted) at before_is;
@@ -247,21 +238,12 @@ turn-read ok counted known j-is b-is a-is before_is start_is end_is after_is = r
 }
 
 module _ {cs : List Corner} {i j : ℕ} {before p q after : Corner} (turn : Turn cs i j before p q after) where
-  end_below : j < length cs
-  end_below = after-below turn.following turn.known
-
   pub turn-right : (v : Corner) → is_right (corner cs i) (corner cs i ⇀ corner cs (next (length cs) i)) v ≡ true
       → is_right p (p ⇀ q) v ≡ true
   turn-right v right = rw (turn.start_is, turn.end_is, turn.following) right
 
-  pub turn-range : InRange before × (InRange p × (InRange q × InRange after))
-  turn-range = let all = turn.ok.all_in_range in rw (turn.before_is, turn.start_is, turn.end_is, turn.after_is) (
-    all _ (before-below refl turn.known),
-    (all i turn.known, (all j end_below, all _ (after-below refl end_below))),
-  )
-
   -- what is found there
-  pub turn-answer : (v : Corner) {part : Part} → part ≡ nearest_part v before p q after → (r : Part) → part ≡ r
+  pub turn-answer : (v : Corner) {part : Option Part} → part ≡ nearest_part v before p q after → (r : Option Part) → part ≡ r
       → edge_answer_for v i j p q r ≡ at_edge cs v i
   unfolding at_edge
   turn-answer v is r e =

@@ -20,7 +20,7 @@ pub fn within(v: Corner) -> NearestPoint
     NearestPoint {
         feature: Feature::Within,
         gap: Fraction { upper: 0, lower: 1 },
-        point: plane::whole(v),
+        point: Point::from(v),
     }
 }
 
@@ -37,7 +37,7 @@ pub fn at_corner(v: Corner, i: usize, c: Corner) -> NearestPoint
             upper: gap as u64,
             lower: 1,
         },
-        point: plane::whole(c),
+        point: Point::from(c),
     }
 }
 

@@ -8,10 +8,9 @@ ghost use Rattle.projection.specs.Part.{nearest_part};
 
 use plane::Corner;
 
-// A part of an edge: none, its start, strictly between its ends, its end.
+// A part of an edge: its start, strictly between its ends, its end.
 #[derive(Clone, Copy)]
 pub enum Part {
-    None,
     Start,
     Between,
     End,
@@ -47,12 +46,12 @@ fn corner_is_nearest(v: Corner, before: Corner, c: Corner, after: Corner) -> boo
     if 0 < plane::dot(to, plane::difference(c, before)) {
         return false;
     }
-    !plane::same(c, v)
+    c != v
 }
 
-// The part of the edge from p to q, with the corners before and after it, that is the nearest feature; v is strictly
-// right of the edge.
-pub fn nearest_part(v: Corner, before: Corner, p: Corner, q: Corner, after: Corner) -> Part
+// The part of the edge from p to q, with the corners before and after it, that is the nearest feature, if one is; v
+// is strictly right of the edge.
+pub fn nearest_part(v: Corner, before: Corner, p: Corner, q: Corner, after: Corner) -> Option<Part>
     requires in_range { InRange v }
     requires in_range_2 { InRange before }
     requires in_range_3 { InRange p }
@@ -62,13 +61,13 @@ pub fn nearest_part(v: Corner, before: Corner, p: Corner, q: Corner, after: Corn
     ensures { result ≡ nearest_part v before p q after }
 {
     if foot_is_between(v, p, q) {
-        return Part::Between;
+        return Some(Part::Between);
     }
     if corner_is_nearest(v, before, p, q) {
-        return Part::Start;
+        return Some(Part::Start);
     }
     if corner_is_nearest(v, p, q, after) {
-        return Part::End;
+        return Some(Part::End);
     }
-    Part::None
+    None
 }

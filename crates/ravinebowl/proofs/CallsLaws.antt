@@ -20,10 +20,12 @@ use borrow.Author.Tests.{eq-eqb, ne_eqb}
 use lib.Dec.{eqb}
 use lib.IntN.{ℤ}
 use lib.ListN.{length}
+use Rattle.std.specs.Prelude.{Result, Ok, Err}
+use Rattle.hausdorff.specs.declared.Report.{Report}
+use Rattle.nearest.specs.declared.NearestPoint.{NearestPoint}
 use Rattle.plane.specs.declared.Corner.{Corner}
 use Rattle.outline.specs.declared.Refusal.{Refusal}
-use Rattle.outline.specs.declared.Verdict.{Verdict}
-use Rattle.outline.specs.code.Checks.{if_taken}
+use Rattle.outline.specs.code.Checks.{Verdict, if_taken}
 use Rattle.outline.specs.Corners.{corners, corner}
 use Rattle.outline.proofs.ChecksLaws.{taken≢refused}
 use Rattle.edit.specs.Removal.{removal_conditions}
@@ -33,20 +35,15 @@ use Rattle.edit.specs.Insertion.{insertion_conditions}
 use Rattle.edit.specs.code.Insertion.{insertion_verdict, insertion_list}
 use Rattle.edit.proofs.Insertion.{insertion-refused}
 use Rattle.edit.proofs.RoundTrip.{remove-insert, insert-remove}
-use Rattle.hull.specs.declared.HullAnswer.{HullAnswer}
 use Rattle.hull.specs.Call.{hull_conditions}
 use Rattle.hull.specs.code.Call.{check_hull, answer_for, hull_answer, hull_list, hull_marks}
 use Rattle.hull.proofs.CallLaws.{hull-refuses}
-use Rattle.nearest.specs.declared.NearestAnswer.{NearestAnswer}
 use Rattle.nearest.specs.Call.{nearest_conditions}
 use Rattle.nearest.specs.code.Call.{nearest_answer}
 use Rattle.nearest.proofs.CallLaws.{nearest-refuses}
-use Rattle.hausdorff.specs.declared.Comparison.{Comparison}
-use Rattle.hausdorff.specs.declared.Comparison.TheVariants.{Refused, Reported}
 use Rattle.hausdorff.specs.Call.{pair_conditions}
 use Rattle.hausdorff.specs.code.Call.{comparison}
 use Rattle.hausdorff.proofs.CallLaws.{compare-refuses}
-use Rattle.mismatch.specs.declared.MismatchAnswer.{MismatchAnswer}
 use Rattle.mismatch.specs.code.Call.{mismatch_answer}
 use Rattle.mismatch.proofs.CallLaws.{mismatch-refuses}
 use Rattle.encoding.specs.declared.status.Status.{Status}
@@ -96,7 +93,7 @@ compare-wrong s t allowance result =
     length-wrong compare_length status_of_comparison list_of_comparison (comparison s t allowance) result
 
 pub compare-right : (s t : List ℤ) (allowance : ℕ) (result : List ℤ) → length result ≡ compare_length
-    → {answer : Comparison} → comparison s t allowance ≡ answer
+    → {answer : Result Report Refusal} → comparison s t allowance ≡ answer
     → (compare_status s t allowance result ≡ status_of_comparison answer)
     × (compare_list s t allowance result ≡ list_of_comparison answer result)
 unfolding compare_status compare_list
@@ -111,7 +108,7 @@ records-wrong s a b allowance result =
     length-wrong compare_length status_of_comparison list_of_comparison (records_comparison s a b allowance) result
 
 pub records-right : (s : List ℤ) (a b : ℤ) (allowance : ℕ) (result : List ℤ) → length result ≡ compare_length
-    → {answer : Comparison} → records_comparison s a b allowance ≡ answer
+    → {answer : Result Report Refusal} → records_comparison s a b allowance ≡ answer
     → (compare_records_status s a b allowance result ≡ status_of_comparison answer)
     × (compare_records_list s a b allowance result ≡ list_of_comparison answer result)
 unfolding compare_records_status compare_records_list
@@ -126,7 +123,7 @@ nearest-wrong x y s result =
     length-wrong nearest_length status_of_nearest list_of_nearest (nearest_answer (record { x = x; y = y }) s) result
 
 pub nearest-right : (x y : ℤ) (s : List ℤ) (result : List ℤ) → length result ≡ nearest_length
-    → {answer : NearestAnswer} → nearest_answer (record { x = x; y = y }) s ≡ answer
+    → {answer : Result NearestPoint Refusal} → nearest_answer (record { x = x; y = y }) s ≡ answer
     → (nearest_status x y s result ≡ status_of_nearest answer)
     × (nearest_list x y s result ≡ list_of_nearest answer result)
 unfolding nearest_status nearest_list
@@ -141,7 +138,7 @@ mismatch-wrong s t result =
     length-wrong mismatch_length status_of_mismatch list_of_mismatch (mismatch_answer s t) result
 
 pub mismatch-right : (s t : List ℤ) (result : List ℤ) → length result ≡ mismatch_length
-    → {answer : MismatchAnswer} → mismatch_answer s t ≡ answer
+    → {answer : Result ℕ Refusal} → mismatch_answer s t ≡ answer
     → (mismatch_status s t result ≡ status_of_mismatch answer)
     × (mismatch_list s t result ≡ list_of_mismatch answer result)
 unfolding mismatch_status mismatch_list
@@ -156,7 +153,7 @@ hull-wrong s out marks result =
     length-wrong convex_hull_length status_of_hull result_of_hull (hull_answer s out marks) result
 
 pub hull-right : (s out marks : List ℤ) (result : List ℤ) → length result ≡ convex_hull_length
-    → {answer : HullAnswer} → hull_answer s out marks ≡ answer
+    → {answer : Result ℕ Refusal} → hull_answer s out marks ≡ answer
     → (convex_hull_status s out marks result ≡ status_of_hull answer)
     × (convex_hull_result s out marks result ≡ result_of_hull answer result)
 unfolding convex_hull_status convex_hull_result
@@ -184,10 +181,10 @@ unfolding compare_status compare_list compare_records_status compare_records_lis
 answered-alike p q s a b allowance result same = (rw same, rw same)
 
 -- a comparison that is refused leaves the list as it was
-comparison-kept : (result : List ℤ) (answer : Comparison) → NotAnswered (status_of_comparison answer)
+comparison-kept : (result : List ℤ) (answer : Result Report Refusal) → NotAnswered (status_of_comparison answer)
     → list_of_comparison answer result ≡ result
-comparison-kept result (Refused r) not = refl
-comparison-kept result (Reported q) not = absurd (not refl)
+comparison-kept result (Err r) not = refl
+comparison-kept result (Ok q) not = absurd (not refl)
 
 pub compare-kept : (s t : List ℤ) (allowance : ℕ) (result : List ℤ) → NotAnswered (compare_status s t allowance result)
     → compare_list s t allowance result ≡ result
@@ -207,23 +204,23 @@ unfolding nearest_status nearest_list
 nearest-kept x y s result =
     length-kept nearest_length status_of_nearest list_of_nearest (nearest_answer (record { x = x; y = y }) s) result by_answer
   where
-    by_answer : (answer : NearestAnswer) → NotAnswered (status_of_nearest answer) → list_of_nearest answer result ≡ result
-    by_answer (NearestAnswer.Refused r) not = refl
-    by_answer (NearestAnswer.Found a) not = absurd (not refl)
+    by_answer : (answer : Result NearestPoint Refusal) → NotAnswered (status_of_nearest answer) → list_of_nearest answer result ≡ result
+    by_answer (Err r) not = refl
+    by_answer (Ok a) not = absurd (not refl)
 
 pub mismatch-kept : (s t result : List ℤ) → NotAnswered (mismatch_status s t result) → mismatch_list s t result ≡ result
 unfolding mismatch_status mismatch_list
 mismatch-kept s t result =
     length-kept mismatch_length status_of_mismatch list_of_mismatch (mismatch_answer s t) result by_answer
   where
-    by_answer : (answer : MismatchAnswer) → NotAnswered (status_of_mismatch answer) → list_of_mismatch answer result ≡ result
-    by_answer (MismatchAnswer.Refused r) not = refl
-    by_answer (MismatchAnswer.Summed m) not = absurd (not refl)
+    by_answer : (answer : Result ℕ Refusal) → NotAnswered (status_of_mismatch answer) → list_of_mismatch answer result ≡ result
+    by_answer (Err r) not = refl
+    by_answer (Ok m) not = absurd (not refl)
 
--- a call whose list is written where its verdict is Taken
+-- a call whose list is written where its verdict is Ok
 verdict-kept : (v : Verdict) (written out : List ℤ) → NotAnswered (status_of_verdict v) → if_taken v written out ≡ out
-verdict-kept Verdict.Taken written out not = absurd (not refl)
-verdict-kept (Verdict.Refused r) written out not = refl
+verdict-kept (Ok _) written out not = absurd (not refl)
+verdict-kept (Err r) written out not = refl
 
 pub removal-kept : (s : List ℤ) (k : ℕ) (out : List ℤ) → NotAnswered (removal_status s k out) → list_after s k out ≡ out
 removal-kept s k out = verdict-kept (removal_verdict s k out) _ out
@@ -244,46 +241,46 @@ hull-kept s out marks result not = go (eqb (length result) convex_hull_length) (
         → (cond right (hull_list s out marks) out ≡ out) × ((cond right (hull_marks s out marks) marks ≡ marks)
         × (cond right (result_of_hull (hull_answer s out marks) result) result ≡ result))
     go false v is not = (refl, (refl, refl))
-    go true Verdict.Taken is not = absurd (not (rw is))
-    go true (Verdict.Refused r) is not = (rw is, (rw is, rw is))
+    go true (Ok _) is not = absurd (not (rw is))
+    go true (Err r) is not = (rw is, (rw is, rw is))
 
 -- a refusal's code is neither that of an answer nor that of a wrong length
 abbrev pub CodeApart : Refusal → Type 0
 CodeApart r = (answered.code < (refused_status r).code) × ((refused_status r).code < wrong_result_length.code)
 
-pub compare-code : (s t : List ℤ) (allowance : ℕ) (r : Refusal) → comparison s t allowance ≡ Refused r → CodeApart r
+pub compare-code : (s t : List ℤ) (allowance : ℕ) (r : Refusal) → comparison s t allowance ≡ Err r → CodeApart r
 compare-code s t allowance r is = refused-code (pair_conditions s t) r refl ((compare-refuses s t allowance r).0 is)
 
-pub records-code : (s : List ℤ) (a b : ℤ) (allowance : ℕ) (r : Refusal) → records_comparison s a b allowance ≡ Refused r
+pub records-code : (s : List ℤ) (a b : ℤ) (allowance : ℕ) (r : Refusal) → records_comparison s a b allowance ≡ Err r
     → CodeApart r
 records-code s a b allowance r is =
     refused-code (records_conditions s a b) r refl ((records-refuses s a b allowance r).0 is)
 
-pub nearest-code : (v : Corner) (s : List ℤ) (r : Refusal) → nearest_answer v s ≡ NearestAnswer.Refused r → CodeApart r
+pub nearest-code : (v : Corner) (s : List ℤ) (r : Refusal) → nearest_answer v s ≡ Err r → CodeApart r
 nearest-code v s r is = refused-code (nearest_conditions v s) r refl ((nearest-refuses v s r).0 is)
 
-pub removal-code : (s : List ℤ) (k : ℕ) (out : List ℤ) (r : Refusal) → removal_verdict s k out ≡ Verdict.Refused r
+pub removal-code : (s : List ℤ) (k : ℕ) (out : List ℤ) (r : Refusal) → removal_verdict s k out ≡ Err r
     → CodeApart r
 removal-code s k out r is =
     refused-code (removal_conditions s k (length out)) r refl ((removal-refused s k (length out) r).0 is)
 
 pub insertion-code : (s : List ℤ) (k : ℕ) (v : Corner) (out : List ℤ) (r : Refusal)
-    → insertion_verdict s k v out ≡ Verdict.Refused r → CodeApart r
+    → insertion_verdict s k v out ≡ Err r → CodeApart r
 insertion-code s k v out r is =
     refused-code (insertion_conditions s k v (length out)) r refl ((insertion-refused s k v (length out) r).0 is)
 
-pub mismatch-code : (s t : List ℤ) (r : Refusal) → mismatch_answer s t ≡ MismatchAnswer.Refused r → CodeApart r
+pub mismatch-code : (s t : List ℤ) (r : Refusal) → mismatch_answer s t ≡ Err r → CodeApart r
 mismatch-code s t r is = refused-code (pair_conditions s t) r refl ((mismatch-refuses s t r).0 is)
 
-pub hull-code : (s out marks : List ℤ) (r : Refusal) → hull_answer s out marks ≡ HullAnswer.Refused r → CodeApart r
+pub hull-code : (s out marks : List ℤ) (r : Refusal) → hull_answer s out marks ≡ Err r → CodeApart r
 hull-code s out marks r is =
     refused-code (hull_conditions s (length out) (length marks)) r refl ((hull-refuses s out marks r).0 is)
 
--- a call that edits answers exactly where its verdict is Taken
-verdict-answered : (v : Verdict) → ((r : Refusal) → v ≡ Verdict.Refused r → CodeApart r)
-    → (status_of_verdict v ≡ answered) ↔ (v ≡ Verdict.Taken)
-verdict-answered Verdict.Taken apart = (λ _. refl, λ _. refl)
-verdict-answered (Verdict.Refused r) apart = (
+-- a call that edits answers exactly where its verdict is Ok
+verdict-answered : (v : Verdict) → ((r : Refusal) → v ≡ Err r → CodeApart r)
+    → (status_of_verdict v ≡ answered) ↔ (v ≡ Ok tt)
+verdict-answered (Ok _) apart = (λ _. refl, λ _. refl)
+verdict-answered (Err r) apart = (
   λ is. (let above = (apart r refl).0 in absurd (omega (arith, above, ap code is))),
   λ is. absurd (taken≢refused is refl),
 )
@@ -292,11 +289,11 @@ verdict-answered (Verdict.Refused r) apart = (
     code status = status.code
 
 pub removal-answered : (s : List ℤ) (k : ℕ) (out : List ℤ)
-    → (removal_status s k out ≡ answered) ↔ (removal_verdict s k out ≡ Verdict.Taken)
+    → (removal_status s k out ≡ answered) ↔ (removal_verdict s k out ≡ Ok tt)
 removal-answered s k out = verdict-answered (removal_verdict s k out) (removal-code s k out)
 
 pub insertion-answered : (s : List ℤ) (k : ℕ) (v : Corner) (out : List ℤ)
-    → (insertion_status s k v out ≡ answered) ↔ (insertion_verdict s k v out ≡ Verdict.Taken)
+    → (insertion_status s k v out ≡ answered) ↔ (insertion_verdict s k v out ≡ Ok tt)
 insertion-answered s k v out = verdict-answered (insertion_verdict s k v out) (insertion-code s k v out)
 
 -- so the C functions that edit undo each other, as the calls do

@@ -1,19 +1,20 @@
 -- What stands in a result list after numbers are written to it from a place on.
 --     written          the places before the numbers' end have what stood before them, and the numbers
 --     written-to-end   so the whole list, if they end where it ends
---     written-whole    and the numbers alone, if they begin where it begins
+--     begun            the numbers at the beginning, and then what stood after them
 --     report-written   the three parts of a report, one after the other, are its numbers
 use Prim.Native.Nat.{ℕ, ◌+◌, ◌≤◌}
 use mathlib.Core.Path.{◌≡◌, refl, ◌∙◌}
 use mathlib.Core.List.{List, ◌++◌, append-nil}
-use native.Mathlib.Nat.{le_refl}
+use native.Mathlib.Nat.{le_refl, zero-add}
 use native.Mathlib.Omega.{arith}
 use lib.IntN.{ℤ}
-use lib.ListN.{length, take, length-append}
+use lib.ListN.{length, take, drop, length-append}
 use lib.Seq.{paste, take-paste, length-paste, take-length, drop-length}
+use Rattle.std.specs.Prelude.{Option, None, Some}
+use Rattle.outline.specs.declared.Side.{Side}
 use Rattle.outline.specs.declared.Side.TheVariants.{A, B}
-use Rattle.hausdorff.specs.declared.WorstSoFar.{WorstSoFar}
-use Rattle.hausdorff.specs.declared.WorstSoFar.TheVariants.{None, Worst}
+use Rattle.hausdorff.specs.declared.CornerGap.{CornerGap}
 use Rattle.hausdorff.specs.declared.Report.{Report}
 use Rattle.encoding.specs.Results.{of_worst, of_overall, reported_of, of_side, of_report}
 use Rattle.ravinebowl.specs.Calls.{compare_length}
@@ -25,8 +26,9 @@ module _ (l s : List ℤ) (n : ℕ) where
   pub written-to-end : n + length s ≡ length l → paste l n s (length s) ≡ take n l ++ s
   written-to-end ends = rw (ends, drop-length l, take-length s, append-nil)
 
-pub written-whole : (l s : List ℤ) {l' : List ℤ} → length s ≡ length l → l' ≡ paste l 0 s (length s) → l' ≡ s
-written-whole l s long is = is ∙ written-to-end l s 0 (omega arith)
+-- the numbers at the beginning
+pub begun : (l s : List ℤ) {n : ℕ} → length s ≡ n → s ++ drop n l ≡ paste l 0 s (length s)
+begun l s long = rw (← long, zero-add (length s), take-length s) refl
 
 -- three parts, one after the other, up to places n and k and to the end
 parts-written : (o a b l : List ℤ) (n k : ℕ) {l₁ l₂ l₃ : List ℤ}
@@ -40,12 +42,15 @@ parts-written o a b l n k {l₁} {l₂} to-n to-k to_end first second third =
     third ∙ written-to-end l₂ b k (omega arith) ∙ rw (up-to-k, up-to-n)
 
 -- a corner with its gap, or none, is nine numbers
-worst-length : (x : WorstSoFar) → length (of_worst x) ≡ 9
+worst-length : (x : Option CornerGap) → length (of_worst x) ≡ 9
 worst-length None = refl
-worst-length (Worst w) = refl
+worst-length (Some w) = refl
+
+pub side-length : (s : Side) (r : Report) → length (of_side s r) ≡ 9
+side-length s r = worst-length (reported_of s r)
 
 -- and of both outlines together fourteen
-overall-length : (r : Report) → length (of_overall r) ≡ 14
+pub overall-length : (r : Report) → length (of_overall r) ≡ 14
 overall-length (Report.Spent p) = simp length-append (omega (arith, worst-length p.worst))
 overall-length (Report.Done d) = refl
 
@@ -55,6 +60,6 @@ pub report-written : (r : Report) (l : List ℤ) {l₁ l₂ l₃ : List ℤ} →
     → l₃ ≡ paste l₂ 23 (of_side B r) (length (of_side B r))
     → l₃ ≡ of_report r
 report-written r l long =
-    let of_a = worst-length (reported_of A r) in let of_b = worst-length (reported_of B r) in
+    let of_a = side-length A r in let of_b = side-length B r in
     parts-written (of_overall r) (of_side A r) (of_side B r) l 14 23
     (overall-length r) (omega arith) (omega arith)

@@ -1,18 +1,16 @@
 -- Rules 9.1 to 9.8 and 9.10 to 9.13: what each call returns, and what it leaves in the lists that it may write.
-use Rattle.std.specs.Prelude.{ℕ, cond, List, eqb, ℤ, length}
+use Rattle.hausdorff.specs.declared.Report.{Report}
+use Rattle.outline.specs.code.Checks.{Verdict}
+use Rattle.outline.specs.declared.Refusal.{Refusal}
+use Rattle.nearest.specs.declared.NearestPoint.{NearestPoint}
+use Rattle.std.specs.Prelude.{ℕ, cond, List, eqb, ℤ, length, Result, Ok, Err}
 use Rattle.plane.specs.declared.Corner.{Corner}
-use Rattle.outline.specs.declared.Verdict.{Verdict}
 use Rattle.edit.specs.code.Removal.{removal_verdict}
 use Rattle.edit.specs.code.Insertion.{insertion_verdict}
-use Rattle.nearest.specs.declared.NearestAnswer.{NearestAnswer}
 use Rattle.nearest.specs.code.Call.{nearest_answer}
-use Rattle.hausdorff.specs.declared.Comparison.{Comparison}
-use Rattle.hausdorff.specs.declared.Comparison.TheVariants.{Refused, Reported}
 use Rattle.hausdorff.specs.code.Call.{comparison}
-use Rattle.mismatch.specs.declared.MismatchAnswer.{MismatchAnswer}
 use Rattle.mismatch.specs.code.Call.{mismatch_answer}
 use Rattle.records.specs.code.Call.{records_comparison}
-use Rattle.hull.specs.declared.HullAnswer.{HullAnswer}
 use Rattle.hull.specs.code.Call.{hull_answer, hull_list, hull_marks}
 use Rattle.encoding.specs.declared.status.Status.{Status}
 use Rattle.encoding.specs.Status.{answered, wrong_result_length, refused_status}
@@ -43,14 +41,14 @@ abbrev pub list_for : {X : Type 0} → ℕ → (X → List ℤ → List ℤ) →
 list_for long list_of answer result = cond (eqb (length result) long) (list_of answer result) result
 
 -- the status, by what comparing answers; being spent is no refusal
-abbrev pub status_of_comparison : Comparison → Status
-status_of_comparison (Refused r) = refused_status r
-status_of_comparison (Reported q) = answered
+abbrev pub status_of_comparison : Result Report Refusal → Status
+status_of_comparison (Err r) = refused_status r
+status_of_comparison (Ok q) = answered
 
 -- the result list after that, given what it held before; a refused call writes to no list (rule 9.8)
-abbrev pub list_of_comparison : Comparison → List ℤ → List ℤ
-list_of_comparison (Refused r) before = before
-list_of_comparison (Reported q) before = of_report q
+abbrev pub list_of_comparison : Result Report Refusal → List ℤ → List ℤ
+list_of_comparison (Err r) before = before
+list_of_comparison (Ok q) before = of_report q
 
 -- the status that `ravinebowl_compare` returns
 unfoldable pub compare_status : List ℤ → List ℤ → ℕ → List ℤ → Status
@@ -71,14 +69,14 @@ compare_records_list s a b allowance result =
     list_for compare_length list_of_comparison (records_comparison s a b allowance) result
 
 -- the status, by what the call for the nearest point answers
-abbrev pub status_of_nearest : NearestAnswer → Status
-status_of_nearest (NearestAnswer.Refused r) = refused_status r
-status_of_nearest (NearestAnswer.Found a) = answered
+abbrev pub status_of_nearest : Result NearestPoint Refusal → Status
+status_of_nearest (Err r) = refused_status r
+status_of_nearest (Ok a) = answered
 
 -- the result list after that, given what it held before
-abbrev pub list_of_nearest : NearestAnswer → List ℤ → List ℤ
-list_of_nearest (NearestAnswer.Refused r) before = before
-list_of_nearest (NearestAnswer.Found a) before = of_nearest a
+abbrev pub list_of_nearest : Result NearestPoint Refusal → List ℤ → List ℤ
+list_of_nearest (Err r) before = before
+list_of_nearest (Ok a) before = of_nearest a
 
 -- the status that `ravinebowl_nearest_point` returns
 unfoldable pub nearest_status : ℤ → ℤ → List ℤ → List ℤ → Status
@@ -89,14 +87,14 @@ unfoldable pub nearest_list : ℤ → ℤ → List ℤ → List ℤ → List ℤ
 nearest_list x y s result = list_for nearest_length list_of_nearest (nearest_answer (record { x = x; y = y }) s) result
 
 -- the status, by what the call for the mismatch sum answers
-abbrev pub status_of_mismatch : MismatchAnswer → Status
-status_of_mismatch (MismatchAnswer.Refused r) = refused_status r
-status_of_mismatch (MismatchAnswer.Summed m) = answered
+abbrev pub status_of_mismatch : Result ℕ Refusal → Status
+status_of_mismatch (Err r) = refused_status r
+status_of_mismatch (Ok m) = answered
 
 -- the result list after that, given what it held before
-abbrev pub list_of_mismatch : MismatchAnswer → List ℤ → List ℤ
-list_of_mismatch (MismatchAnswer.Refused r) before = before
-list_of_mismatch (MismatchAnswer.Summed m) before = of_number m
+abbrev pub list_of_mismatch : Result ℕ Refusal → List ℤ → List ℤ
+list_of_mismatch (Err r) before = before
+list_of_mismatch (Ok m) before = of_number m
 
 -- the status that `ravinebowl_mismatch` returns
 unfoldable pub mismatch_status : List ℤ → List ℤ → List ℤ → Status
@@ -108,8 +106,8 @@ mismatch_list s t result = list_for mismatch_length list_of_mismatch (mismatch_a
 
 -- the status, by what removing or inserting a corner answers
 abbrev pub status_of_verdict : Verdict → Status
-status_of_verdict Verdict.Taken = answered
-status_of_verdict (Verdict.Refused r) = refused_status r
+status_of_verdict (Ok _) = answered
+status_of_verdict (Err r) = refused_status r
 
 -- the status that `ravinebowl_remove_corner` returns; its list is `list_after` of `edit/specs/code/Removal.antt`
 abbrev pub removal_status : List ℤ → ℕ → List ℤ → Status
@@ -120,14 +118,14 @@ abbrev pub insertion_status : List ℤ → ℕ → Corner → List ℤ → Statu
 insertion_status s k v out = status_of_verdict (insertion_verdict s k v out)
 
 -- the status, by what the call for the convex hull answers
-abbrev pub status_of_hull : HullAnswer → Status
-status_of_hull (HullAnswer.Refused r) = refused_status r
-status_of_hull (HullAnswer.Made n) = answered
+abbrev pub status_of_hull : Result ℕ Refusal → Status
+status_of_hull (Err r) = refused_status r
+status_of_hull (Ok n) = answered
 
 -- the result list after that, given what it held before
-abbrev pub result_of_hull : HullAnswer → List ℤ → List ℤ
-result_of_hull (HullAnswer.Refused r) before = before
-result_of_hull (HullAnswer.Made n) before = of_number n
+abbrev pub result_of_hull : Result ℕ Refusal → List ℤ → List ℤ
+result_of_hull (Err r) before = before
+result_of_hull (Ok n) before = of_number n
 
 -- the status that `ravinebowl_convex_hull` returns
 unfoldable pub convex_hull_status : List ℤ → List ℤ → List ℤ → List ℤ → Status

@@ -3,8 +3,7 @@
 // names.
 #![tactic(auto)]
 
-ghost use Rattle.std.specs.Prelude.{◌≡◌, ◌+◌, ◌≤◌, length};
-ghost use Rattle.std.proofs.Math.Seq.{paste};
+ghost use Rattle.std.specs.Prelude.{◌≡◌, length};
 ghost use Rattle.hausdorff.specs.code.Sizes.{ReportFits};
 ghost use Rattle.encoding.specs.Results.{of_report};
 ghost use Rattle.ravinebowl.specs.Calls.{compare_length, compare_status, compare_list};
@@ -15,31 +14,15 @@ ghost use Rattle.ravinebowl.specs.Calls.{convex_hull_status, convex_hull_list, c
 ghost use Rattle.edit.specs.code.Removal.{list_after};
 ghost use Rattle.edit.specs.code.Insertion.{insertion_list};
 
+use encoding::results;
 use encoding::results::{
     COMPARE_LENGTH, CONVEX_HULL_LENGTH, MISMATCH_LENGTH, NEAREST_LENGTH, SIDE_A_PLACE, SIDE_B_PLACE,
 };
 use encoding::status::Status;
-use encoding::{results, status};
-use hausdorff::{Comparison, Report};
-use hull::HullAnswer;
-use mismatch::MismatchAnswer;
-use nearest::NearestAnswer;
-use outline::{Side, Verdict};
+use hausdorff::Report;
+use outline::Side;
 use plane::Corner;
 use reading::corners::no_numbers;
-use records::ChainsVerdict;
-
-// Copies numbers to a list, from a place on.
-fn write(numbers: &[i64], list: &mut [i64], from: usize)
-    requires { from + length numbers.now ≤ length list.old }
-    ensures { list.new ≡ paste list.old from numbers.now (length numbers.now) }
-{
-    let mut i = 0;
-    while i < numbers.len() {
-        list[from + i] = numbers[i];
-        i += 1;
-    }
-}
 
 // Writes the numbers of a comparison: first those of both outlines together, then A's and B's.
 fn write_report(report: Report, res: &mut [i64])
@@ -47,9 +30,9 @@ fn write_report(report: Report, res: &mut [i64])
     requires res_len { length res.old ≡ compare_length }
     ensures { res.new ≡ of_report report }
 {
-    write(&results::of_overall(report), res, 0);
-    write(&results::of_side(Side::A, report), res, SIDE_A_PLACE);
-    write(&results::of_side(Side::B, report), res, SIDE_B_PLACE);
+    res[..SIDE_A_PLACE].copy_from_slice(&results::of_overall(report));
+    res[SIDE_A_PLACE..SIDE_B_PLACE].copy_from_slice(&results::of_side(Side::A, report));
+    res[SIDE_B_PLACE..].copy_from_slice(&results::of_side(Side::B, report));
 }
 
 // Compares the outlines that the lists `a` and `b` give, in at most `allowance` steps, and writes 32 numbers to
@@ -60,13 +43,13 @@ pub fn ravinebowl_compare(a: &[i32], b: &[i32], allowance: u32, res: &mut [i64])
     ensures list { res.new ≡ compare_list a.now b.now allowance res.old }
 {
     if res.len() != COMPARE_LENGTH {
-        return status::wrong_result_length();
+        return Status::wrong_result_length();
     }
     match calls::compare(a, b, allowance) {
-        Comparison::Refused(refusal) => status::refused(refusal),
-        Comparison::Reported(report) => {
+        Err(refusal) => Status::from(refusal),
+        Ok(report) => {
             write_report(report, res);
-            status::answered()
+            Status::answered()
         }
     }
 }
@@ -86,13 +69,13 @@ pub fn ravinebowl_compare_records(
     ensures list { res.new ≡ compare_records_list records.now a_start b_start allowance res.old }
 {
     if res.len() != COMPARE_LENGTH {
-        return status::wrong_result_length();
+        return Status::wrong_result_length();
     }
     let mut a = no_numbers();
     let mut b = no_numbers();
     match traversal::read_chains(records, a_start, b_start, &mut a, &mut b) {
-        ChainsVerdict::Refused(refusal) => status::refused(refusal),
-        ChainsVerdict::Ended(n, m) => ravinebowl_compare(&a[..n], &b[..m], allowance, res),
+        Err(refusal) => Status::from(refusal),
+        Ok((n, m)) => ravinebowl_compare(&a[..n], &b[..m], allowance, res),
     }
 }
 
@@ -103,13 +86,13 @@ pub fn ravinebowl_nearest_point(x: i32, y: i32, outline: &[i32], res: &mut [i64]
     ensures list { res.new ≡ nearest_list x y outline.now res.old }
 {
     if res.len() != NEAREST_LENGTH {
-        return status::wrong_result_length();
+        return Status::wrong_result_length();
     }
     match calls::nearest_point(Corner { x, y }, outline) {
-        NearestAnswer::Refused(refusal) => status::refused(refusal),
-        NearestAnswer::Found(found) => {
-            write(&results::of_nearest(found), res, 0);
-            status::answered()
+        Err(refusal) => Status::from(refusal),
+        Ok(found) => {
+            res.copy_from_slice(&results::of_nearest(found));
+            Status::answered()
         }
     }
 }
@@ -121,8 +104,8 @@ pub fn ravinebowl_remove_corner(outline: &[i32], corner: usize, out: &mut [i32])
     ensures list { out.new ≡ list_after outline.now corner out.old }
 {
     match calls::remove_corner(outline, corner, out) {
-        Verdict::Taken => status::answered(),
-        Verdict::Refused(refusal) => status::refused(refusal),
+        Ok(()) => Status::answered(),
+        Err(refusal) => Status::from(refusal),
     }
 }
 
@@ -140,8 +123,8 @@ pub fn ravinebowl_insert_corner(
     ensures list { out.new ≡ insertion_list outline.now place (record { x = x; y = y }) out.old }
 {
     match calls::insert_corner(outline, place, Corner { x, y }, out) {
-        Verdict::Taken => status::answered(),
-        Verdict::Refused(refusal) => status::refused(refusal),
+        Ok(()) => Status::answered(),
+        Err(refusal) => Status::from(refusal),
     }
 }
 
@@ -162,13 +145,13 @@ pub fn ravinebowl_convex_hull(
     ensures counted { res.new ≡ convex_hull_result points.now out.old marks.old res.old }
 {
     if res.len() != CONVEX_HULL_LENGTH {
-        return status::wrong_result_length();
+        return Status::wrong_result_length();
     }
     match calls::convex_hull(points, out, marks) {
-        HullAnswer::Refused(refusal) => status::refused(refusal),
-        HullAnswer::Made(count) => {
-            write(&results::of_number(count as u64), res, 0);
-            status::answered()
+        Err(refusal) => Status::from(refusal),
+        Ok(count) => {
+            res.copy_from_slice(&results::of_number(count as u64));
+            Status::answered()
         }
     }
 }
@@ -181,13 +164,13 @@ pub fn ravinebowl_mismatch(a: &[i32], b: &[i32], res: &mut [i64]) -> Status
     ensures list { res.new ≡ mismatch_list a.now b.now res.old }
 {
     if res.len() != MISMATCH_LENGTH {
-        return status::wrong_result_length();
+        return Status::wrong_result_length();
     }
     match calls::mismatch(a, b) {
-        MismatchAnswer::Refused(refusal) => status::refused(refusal),
-        MismatchAnswer::Summed(sum) => {
-            write(&results::of_number(sum), res, 0);
-            status::answered()
+        Err(refusal) => Status::from(refusal),
+        Ok(sum) => {
+            res.copy_from_slice(&results::of_number(sum));
+            Status::answered()
         }
     }
 }

@@ -11,16 +11,15 @@ use mathlib.Core.List.{List, [], ◌∷◌, ◌++◌}
 use mathlib.Core.Path.{◌≡◌, sym, ◌∙◌}
 use lib.IntN.{ℤ}
 use lib.ListN.{length}
+use Rattle.std.specs.Prelude.{Option, Ok, Err}
+use Rattle.outline.specs.declared.Side.{Side}
 use Rattle.plane.specs.declared.Corner.{Corner}
 use Rattle.outline.specs.declared.Orientation.{Orientation}
 use Rattle.outline.specs.declared.Refusal.{Refusal}
-use Rattle.outline.specs.declared.RefusedSide.{RefusedSide}
-use Rattle.outline.specs.declared.Verdict.{Verdict}
-use Rattle.outline.specs.declared.Verdict.TheVariants.{Taken, Refused}
 use Rattle.outline.specs.Convex.{AllInRange}
 use Rattle.outline.specs.Corners.{corners, fewest}
 use Rattle.outline.specs.Orientation.{as_held}
-use Rattle.outline.specs.code.Checks.{first}
+use Rattle.outline.specs.code.Checks.{Verdict, first}
 use Rattle.outline.specs.code.Either.{orientation_of, check_either_convex, check_either}
 use Rattle.outline.specs.code.Reading.{length_checks, check_range, check_repeated, check_convex, check}
 use Rattle.outline.specs.code.Turns.{is_convex}
@@ -31,28 +30,28 @@ use Rattle.outline.proofs.TurnsLaws.{is_convex-true}
 use Rattle.reading.specs.Numbers.{number_checks, check_numbers}
 use Rattle.reading.specs.Shape.{check_shape}
 
-pub convex-shape : (whose : RefusedSide) (cs : List Corner) → fewest ≤ length cs → {b : Bool} → b ≡ is_convex cs → b ≡ true
-    → Taken ≡ check_shape whose cs
+pub convex-shape : (whose : Option Side) (cs : List Corner) → fewest ≤ length cs → {b : Bool} → b ≡ is_convex cs → b ≡ true
+    → Ok tt ≡ check_shape whose cs
 convex-shape whose cs enough told convex =
     sym ((shape-taken cs whose enough).1 ((is_convex-true cs).0 (sym told ∙ convex)))
 
-module _ (whose : RefusedSide) (s : List ℤ) {u : Verdict} (is : u ≡ check_numbers whose s) where
-  module _ {r : Refusal} (refuses : u ≡ Refused r) where
+module _ (whose : Option Side) (s : List ℤ) {u : Verdict} (is : u ≡ check_numbers whose s) where
+  module _ {r : Refusal} (refuses : u ≡ Err r) where
     -- whatever checks follow
-    stops : (rest : List Verdict) → Refused r ≡ first (number_checks whose s ++ rest)
+    stops : (rest : List Verdict) → Err r ≡ first (number_checks whose s ++ rest)
     stops rest = sym (append-stops (number_checks whose s) rest (sym is ∙ refuses))
 
-    pub strict-stops : Refused r ≡ check whose s
+    pub strict-stops : Err r ≡ check whose s
     unfolding check
     strict-stops = stops (check_repeated whose (corners s) ∷ check_convex whose (corners s) ∷ [])
 
-    pub either-stops : Refused r ≡ check_either whose s
+    pub either-stops : Err r ≡ check_either whose s
     unfolding check_either
     either-stops = stops (check_repeated whose (corners s) ∷ check_either_convex whose (corners s) ∷ [])
 
-  module _ (takes : u ≡ Taken) where
+  module _ (takes : u ≡ Ok tt) where
     -- a refusal of the length would be theirs
-    lengths : first (length_checks whose s) ≡ Taken
+    lengths : first (length_checks whose s) ≡ Ok tt
     lengths = not-refused _ (λ r refuses. taken≢refused (sym is ∙ takes)
         (append-stops (length_checks whose s) (check_range whose (corners s) ∷ []) refuses))
 
@@ -77,7 +76,7 @@ module _ (whose : RefusedSide) (s : List ℤ) {u : Verdict} (is : u ≡ check_nu
       answered : {c : Bool} → b ≡ c → is_convex (as_held (orientation_of (corners s)) (corners s)) ≡ c
       answered answer = rw found at (sym told ∙ answer)
 
-      pub either-convex : b ≡ true → Taken ≡ check_either whose s
+      pub either-convex : b ≡ true → Ok tt ≡ check_either whose s
       either-convex convex = sym (convex-either whose s lengths all_in_range (answered convex))
 
       pub either-shape : b ≡ false → {v : Verdict} → v ≡ check_shape whose (corners s) → v ≡ check_either whose s

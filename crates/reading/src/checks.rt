@@ -18,41 +18,24 @@ ghost use Rattle.outline.specs.code.Reading.{length_checks, check_range, check_r
 
 use crate::corners::{corner, count, held_corner, next};
 use crate::refusals::refuse;
-use outline::{FEWEST, MOST, Orientation, Place, RefusedSide, Verdict};
+use outline::{FEWEST, Fault, MOST, Orientation, Place, Refusal, Side};
 use plane::{Corner, Vector};
 
-// The numbers of the refusals of a list, of a point, and of a list to write.
-pub const ODD_LENGTH: u32 = 1;
-
-pub const TOO_FEW: u32 = 2;
-
-pub const TOO_MANY: u32 = 3;
-
-const OUT_OF_RANGE: u32 = 4;
-
-const REPEATED: u32 = 5;
-
-const NOT_LEFT: u32 = 6;
-
-pub const POINT_OUT_OF_RANGE: u32 = 7;
-
-pub const WRONG_LENGTH: u32 = 9;
-
 // 1, 2 and 3: the length of the list.
-fn check_length(s: &[i32], whose: RefusedSide) -> Verdict
+fn check_length(s: &[i32], whose: Option<Side>) -> Result<(), Refusal>
     ensures { result ≡ first (length_checks whose s.now) }
 {
     if s.len() % 2 == 1 {
-        return refuse(ODD_LENGTH, whose, Place::Nowhere);
+        return refuse(Fault::OddLength, whose, Place::Nowhere);
     }
     let n = count(s);
     if n < FEWEST {
-        return refuse(TOO_FEW, whose, Place::Nowhere);
+        return refuse(Fault::TooFew, whose, Place::Nowhere);
     }
     if MOST < n {
-        return refuse(TOO_MANY, whose, Place::Nowhere);
+        return refuse(Fault::TooMany, whose, Place::Nowhere);
     }
-    Verdict::Taken
+    Ok(())
 }
 
 // Whether corner i is out of range.
@@ -64,27 +47,22 @@ fn is_out_of_range(s: &[i32], i: usize) -> bool
 }
 
 // 4: the first corner that is out of range.
-pub fn check_range(s: &[i32], whose: RefusedSide) -> Verdict
+pub fn check_range(s: &[i32], whose: Option<Side>) -> Result<(), Refusal>
     ensures { result ≡ check_range whose (corners s.now) }
 {
-    let n = count(s);
-    let mut i = 0;
-    while i < n {
+    for i in 0..count(s) {
         if is_out_of_range(s, i) {
-            return refuse(OUT_OF_RANGE, whose, Place::At(i));
+            return refuse(Fault::OutOfRange, whose, Place::At(i));
         }
-        i += 1;
     }
-    Verdict::Taken
+    Ok(())
 }
 
 // 1 to 4: the length of the list, and whether its corners are in range.
-fn check_numbers(s: &[i32], whose: RefusedSide) -> Verdict
+fn check_numbers(s: &[i32], whose: Option<Side>) -> Result<(), Refusal>
     ensures { result ≡ check_numbers whose s.now }
 {
-    if let Verdict::Refused(refusal) = check_length(s, whose) {
-        return Verdict::Refused(refusal);
-    }
+    check_length(s, whose)?;
     check_range(s, whose)
 }
 
@@ -93,22 +71,19 @@ fn is_repeated(s: &[i32], i: usize) -> bool
     requires { i < length (corners s.now) }
     ensures { result ≡ is_repeated (corners s.now) i }
 {
-    plane::same(corner(s, i), corner(s, next(count(s), i)))
+    corner(s, i) == corner(s, next(count(s), i))
 }
 
 // 5: the first corner that is equal to the following one.
-fn check_repeated(s: &[i32], whose: RefusedSide) -> Verdict
+fn check_repeated(s: &[i32], whose: Option<Side>) -> Result<(), Refusal>
     ensures { result ≡ check_repeated whose (corners s.now) }
 {
-    let n = count(s);
-    let mut i = 0;
-    while i < n {
+    for i in 0..count(s) {
         if is_repeated(s, i) {
-            return refuse(REPEATED, whose, Place::At(i));
+            return refuse(Fault::Repeated, whose, Place::At(i));
         }
-        i += 1;
     }
-    Verdict::Taken
+    Ok(())
 }
 
 // An edge, taken out of the list: the numbers of its ends, the corner that it runs from, and its differences.
@@ -152,37 +127,29 @@ fn is_not_left(edge: Edge, c: usize, v: Corner) -> bool
 }
 
 // 6, for edge e alone: the first corner that is not strictly left of it.
-fn check_edge(s: &[i32], whose: RefusedSide, e: usize) -> Verdict
+fn check_edge(s: &[i32], whose: Option<Side>, e: usize) -> Result<(), Refusal>
     requires e_in_bounds { e < length (corners s.now) }
     requires all_in_range { AllInRange (corners s.now) }
     ensures { result ≡ check_edge whose (corners s.now) e }
 {
-    let n = count(s);
     let edge = take_edge(s, e);
-    let mut c = 0;
-    while c < n {
+    for c in 0..count(s) {
         if is_not_left(edge, c, corner(s, c)) {
-            return refuse(NOT_LEFT, whose, Place::EdgeAndCorner(e, c));
+            return refuse(Fault::NotLeft, whose, Place::EdgeAndCorner(e, c));
         }
-        c += 1;
     }
-    Verdict::Taken
+    Ok(())
 }
 
 // 6: the first edge that some corner is not strictly left of, and the first such corner.
-fn check_convex(s: &[i32], whose: RefusedSide) -> Verdict
+fn check_convex(s: &[i32], whose: Option<Side>) -> Result<(), Refusal>
     requires { AllInRange (corners s.now) }
     ensures { result ≡ check_convex whose (corners s.now) }
 {
-    let n = count(s);
-    let mut e = 0;
-    while e < n {
-        if let Verdict::Refused(refusal) = check_edge(s, whose, e) {
-            return Verdict::Refused(refusal);
-        }
-        e += 1;
+    for e in 0..count(s) {
+        check_edge(s, whose, e)?;
     }
-    Verdict::Taken
+    Ok(())
 }
 
 // A corner that the pass over the corners visits: where it is, and the differences to it from corner 0 and from the
@@ -252,54 +219,46 @@ fn is_convex(s: &[i32], orientation: Orientation) -> bool
     let apex = held_corner(s, orientation, 0);
     let mut last = visit_of(apex, apex, held_corner(s, orientation, 1));
     let run = last.diagonal;
-    let mut k = 2;
-    while k < n {
+    for k in 2..n {
         let visit = visit_of(apex, last.corner, held_corner(s, orientation, k));
         if !keeps_left_by(run, last, visit) {
             return false;
         }
         last = visit;
-        k += 1;
     }
     true
 }
 
 // 5 and then 6. Three or more strictly convex corners have no equal neighbours: so both are looked for only where the
 // corners are not strictly convex.
-pub fn check_shape(s: &[i32], whose: RefusedSide) -> Verdict
+pub fn check_shape(s: &[i32], whose: Option<Side>) -> Result<(), Refusal>
     requires fewest_in_bounds { fewest ≤ length (corners s.now) }
     requires all_in_range { AllInRange (corners s.now) }
     ensures { result ≡ check_shape whose (corners s.now) }
 {
     if is_convex(s, Orientation::Counterclockwise) {
-        return Verdict::Taken;
+        return Ok(());
     }
-    if let Verdict::Refused(refusal) = check_repeated(s, whose) {
-        return Verdict::Refused(refusal);
-    }
+    check_repeated(s, whose)?;
     check_convex(s, whose)
 }
 
 // All checks of the strict reading, which takes counterclockwise lists only: what the first that refuses answers.
-pub fn check(s: &[i32], whose: RefusedSide) -> Verdict
+pub fn check(s: &[i32], whose: Option<Side>) -> Result<(), Refusal>
     ensures { result ≡ check whose s.now }
 {
-    if let Verdict::Refused(refusal) = check_numbers(s, whose) {
-        return Verdict::Refused(refusal);
-    }
+    check_numbers(s, whose)?;
     check_shape(s, whose)
 }
 
 // All checks of the default reading, which takes either orientation: what the first that refuses answers. A list can
 // have only the orientation of its first three corners, so one pass decides for both.
-pub fn check_either(s: &[i32], whose: RefusedSide) -> Verdict
+pub fn check_either(s: &[i32], whose: Option<Side>) -> Result<(), Refusal>
     ensures { result ≡ check_either whose s.now }
 {
-    if let Verdict::Refused(refusal) = check_numbers(s, whose) {
-        return Verdict::Refused(refusal);
-    }
+    check_numbers(s, whose)?;
     if is_convex(s, orientation(s)) {
-        return Verdict::Taken;
+        return Ok(());
     }
     check_shape(s, whose)
 }

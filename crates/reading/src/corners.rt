@@ -103,13 +103,6 @@ pub fn unfilled(n: usize) -> Outline
     }
 }
 
-// The outline of a refused reading, which has no corners.
-pub fn without_corners() -> Outline
-    ensures { result ≡ held [] }
-{
-    unfilled(0)
-}
-
 // The outline with the corners of a list, as they are held.
 pub fn held(s: &[i32], orientation: Orientation) -> Outline
     requires { length (corners s.now) ≤ most }
@@ -117,10 +110,8 @@ pub fn held(s: &[i32], orientation: Orientation) -> Outline
 {
     let n = count(s);
     let mut outline = unfilled(n);
-    let mut i = 0;
-    while i < n {
+    for i in 0..n {
         outline.corners[i] = held_corner(s, orientation, i);
-        i += 1;
     }
     outline
 }

@@ -1,16 +1,11 @@
-// A refusal as the verdict of a check.
-ghost use Rattle.std.specs.Prelude.{◌≡◌};
-ghost use Rattle.outline.specs.declared.Verdict.TheVariants.{Refused};
+// A refusal as what a check or a call gives.
+ghost use Rattle.std.specs.Prelude.{◌≡◌, Err};
 
-use outline::{Place, Refusal, RefusedSide, Verdict};
+use outline::{Fault, Place, Refusal, Side};
 
-// A check refuses: the number of its condition, the side that it is about, and the place.
-pub fn refuse(number: u32, side: RefusedSide, place: Place) -> Verdict
-    ensures { result ≡ Refused (record { number = number; side = side; place = place }) }
+// A refusal: the fault, the side that it is about, and the place.
+pub fn refuse<T>(fault: Fault, side: Option<Side>, place: Place) -> Result<T, Refusal>
+    ensures { result ≡ Err (record { fault = fault; side = side; place = place }) }
 {
-    Verdict::Refused(Refusal {
-        number,
-        side,
-        place,
-    })
+    Err(Refusal { fault, side, place })
 }

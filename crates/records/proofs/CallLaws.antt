@@ -28,6 +28,12 @@ use native.Mathlib.Omega.{arith}
 use lib.Dec.{eqb}
 use lib.IntN.{ℤ, pos}
 use lib.ListN.{length, take}
+use Rattle.std.specs.Prelude.{Option, Some, Result, Ok, Err}
+use Rattle.outline.specs.Fault.{number}
+use Rattle.outline.specs.declared.Fault.{Fault}
+use Rattle.outline.specs.declared.Fault.TheVariants.{TooFew, PartialRecord, ChainTooLong, NoSuchRecord}
+use Rattle.hausdorff.specs.declared.Report.{Report}
+use Rattle.outline.specs.declared.Side.{Side}
 use Rattle.integers.specs.Equal.{eq_z}
 use Rattle.integers.proofs.Order.{lt_z-true, <ℤ-lt_z}
 use Rattle.integers.proofs.Reflect.{test-not, test-and, test-or, test-eqb, test-eq_z, test-le_z, test-stable}
@@ -35,16 +41,12 @@ use Rattle.plane.specs.declared.Corner.{Corner}
 use Rattle.outline.specs.declared.Orientation.{Orientation}
 use Rattle.outline.specs.declared.Place.TheVariants.{Nowhere, At}
 use Rattle.outline.specs.declared.Refusal.{Refusal}
-use Rattle.outline.specs.declared.RefusedSide.{RefusedSide}
-use Rattle.outline.specs.declared.RefusedSide.TheVariants.{Of}
 use Rattle.outline.specs.declared.Side.TheVariants.{A, B}
-use Rattle.outline.specs.declared.Verdict.{Verdict}
-use Rattle.outline.specs.declared.Verdict.TheVariants as Verdict
 use Rattle.outline.specs.Conditions.{either_conditions}
 use Rattle.outline.specs.Corners.{corners, most}
 use Rattle.outline.specs.Orientation.{AcceptedAs}
 use Rattle.outline.specs.Refusal.{FirstFault, Applies}
-use Rattle.outline.specs.code.Checks.{first, ◌or_else◌}
+use Rattle.outline.specs.code.Checks.{Verdict, first, ◌or_else◌}
 use Rattle.outline.specs.code.Either.{orientation_of, either_checks}
 use Rattle.outline.proofs.ChecksLaws.{first-append}
 use Rattle.outline.proofs.CornersLaws.{length-coordinates, corners-coordinates}
@@ -53,12 +55,9 @@ use Rattle.outline.proofs.ConditionLaws.{decide-append, none-append, fault-appen
 use Rattle.outline.proofs.ConditionLaws.{AllApplying, applying-append, fault-applying}
 use Rattle.outline.proofs.ConditionLaws.{test-decides, place-decides}
 use Rattle.outline.proofs.EitherLaws.{either-decide, none-either, accepted-orientation}
-use Rattle.hausdorff.specs.declared.Comparison.{Comparison}
-use Rattle.hausdorff.specs.declared.Comparison.TheVariants.{Refused}
 use Rattle.hausdorff.specs.code.Call.{pair_checks, pair_verdict_for, check_pair, comparison_for, comparison}
 use Rattle.hausdorff.proofs.CallLaws.{verdict-refused, comparison_for-refused, is-comparison}
 use Rattle.hausdorff.proofs.CallLaws.{comparison-unique}
-use Rattle.records.specs.declared.ChainsVerdict.TheVariants as ChainsVerdict
 use Rattle.records.specs.Chain.{records, Walk, walk_from, walk, Ends, chain_list}
 use Rattle.records.specs.Conditions.{partial_record, too_long, no_such_record, index_conditions, chain_conditions}
 use Rattle.records.specs.Conditions.{records_conditions}
@@ -72,9 +71,9 @@ use Rattle.records.proofs.ChainLaws.{walk-record-0}
 
 -- ---- the checks decide the conditions
 partial-decides : (s : List ℤ) → Decides (check_partial_record s) (partial_record s)
-partial-decides s = test-decides 10 (Of A) (not (eqb (length s % 3) 0)) (test-not _ (test-eqb (length s % 3) 0))
+partial-decides s = test-decides PartialRecord (Some A) (not (eqb (length s % 3) 0)) (test-not _ (test-eqb (length s % 3) 0))
 
-module _ (whose : RefusedSide) (s : List ℤ) (start : ℤ) where
+module _ (whose : Option Side) (s : List ℤ) (start : ℤ) where
   abbrev n : ℕ
   n = length (records s)
 
@@ -88,10 +87,10 @@ module _ (whose : RefusedSide) (s : List ℤ) (start : ℤ) where
   not-zero = test-not _ (test-eq_z z (pos 0))
 
   long-decides : Decides (check_too_long whose (walk s start)) (too_long whose (walk s start))
-  long-decides = place-decides 11 whose (is_too_long (walk s start)) (test-and _ _ (test-eqb k most) not-zero) k
+  long-decides = place-decides ChainTooLong whose (is_too_long (walk s start)) (test-and _ _ (test-eqb k most) not-zero) k
 
   record-decides : Decides (check_no_such_record whose n (walk s start)) (no_such_record whose n (walk s start))
-  record-decides = place-decides 12 whose (is_no_such_record n (walk s start))
+  record-decides = place-decides NoSuchRecord whose (is_no_such_record n (walk s start))
       (test-and _ _ not-zero (test-or _ _ (lt_z-true, <ℤ-lt_z) (test-le_z (pos n) z))) k
 
   chain-decide : AllDecide (chain_checks whose s start) (chain_conditions whose s start)
@@ -111,11 +110,11 @@ module _ (whose : RefusedSide) (s : List ℤ) (start : ℤ) where
   -- with an index other than zero it gets 11 after 256 corners, and 12 after fewer
   module _ (other : z ≢ pos 0) where
     pub walk-long : k ≡ most
-        → FirstFault (index_conditions whose s start) (record { number = 11; side = whose; place = At k })
+        → FirstFault (index_conditions whose s start) (record { fault = ChainTooLong; side = whose; place = At k })
     walk-long full = inl (At k, (refl, (full, other)), refl)
 
     pub walk-bad : k ≢ most
-        → FirstFault (index_conditions whose s start) (record { number = 12; side = whose; place = At k })
+        → FirstFault (index_conditions whose s start) (record { fault = NoSuchRecord; side = whose; place = At k })
     walk-bad fewer =
         let none = ⊎_elim (λ full. absurd (fewer full)) (λ none. none) (walk-stops s start) in
         inr (
@@ -141,28 +140,28 @@ module _ (s : List ℤ) (a b : ℤ) where
   decide : AllDecide (records_checks s a b) (records_conditions s a b)
   decide =
       partial-decides s
-      and decide-append (chain_checks (Of A) s a) (chain_checks (Of B) s b) (chain_conditions (Of A) s a)
-      (chain_conditions (Of B) s b) (chain-decide (Of A) s a) (chain-decide (Of B) s b)
+      and decide-append (chain_checks (Some A) s a) (chain_checks (Some B) s b) (chain_conditions (Some A) s a)
+      (chain_conditions (Some B) s b) (chain-decide (Some A) s a) (chain-decide (Some B) s b)
 
-  whole-taken : length s % 3 ≡ 0 → check_partial_record s ≡ Verdict.Taken
+  whole-taken : length s % 3 ≡ 0 → check_partial_record s ≡ Ok tt
   whole-taken whole = (decides-taken (partial-decides s)).1 (nowhere-plain (λ partial. partial whole))
 
   -- the checks of a store of whole records: those of A's chain, and then those of B's
   first-chains : length s % 3 ≡ 0
-      → first (records_checks s a b) ≡ first (chain_checks (Of A) s a) or_else first (chain_checks (Of B) s b)
-  first-chains whole = rw (whole-taken whole) (first-append (chain_checks (Of A) s a) (chain_checks (Of B) s b))
+      → first (records_checks s a b) ≡ first (chain_checks (Some A) s a) or_else first (chain_checks (Some B) s b)
+  first-chains whole = rw (whole-taken whole) (first-append (chain_checks (Some A) s a) (chain_checks (Some B) s b))
 
   -- where both chains end they find what those of the lists of their corners find
   as-pair : length s % 3 ≡ 0 → Ends s a → Ends s b → check_records s a b ≡ check_pair (chain_list s a) (chain_list s b)
   unfolding check_records check_pair
   as-pair whole ends-a ends-b =
       let both : first (records_checks s a b) ≡ first (pair_checks (chain_list s a) (chain_list s b)) =
-      first-chains whole ∙ rw (ends-taken (Of A) s a ends-a, ends-taken (Of B) s b ends-b)
-      (sym (first-append (either_checks (Of A) (chain_list s a)) (either_checks (Of B) (chain_list s b)))) in
+      first-chains whole ∙ rw (ends-taken (Some A) s a ends-a, ends-taken (Some B) s b ends-b)
+      (sym (first-append (either_checks (Some A) (chain_list s a)) (either_checks (Some B) (chain_list s b)))) in
       ap (pair_verdict_for (chain_list s a) (chain_list s b)) both
 
   module _ (allowance : ℕ) where
-    pub records-refuses : (r : Refusal) → (records_comparison s a b allowance ≡ Refused r) ↔ FirstFault (records_conditions s a b) r
+    pub records-refuses : (r : Refusal) → (records_comparison s a b allowance ≡ Err r) ↔ FirstFault (records_conditions s a b) r
     unfolding check_records
     records-refuses r =
         Iff.trans (comparison_for-refused _ _ allowance (check_records s a b) r)
@@ -181,30 +180,30 @@ module _ (s : List ℤ) (a b : ℤ) where
       where
         go : (v : Verdict) → first (records_checks s a b) ≡ v
             → IsRecordsComparison s a b allowance (records_comparison s a b allowance)
-        go (Verdict.Refused r) refuses =
+        go (Err r) refuses =
             refused r ((first-refused (records_checks s a b) (records_conditions s a b) decide r).0 refuses) (rw refuses)
-        go Verdict.Taken takes =
+        go (Ok _) takes =
             let (not-partial, none) = (first_taken (records_checks s a b) (records_conditions s a b) decide).0 takes in
-            let (none-a, none-b) = (none-append (chain_conditions (Of A) s a) (chain_conditions (Of B) s b)).0 none in
+            let (none-a, none-b) = (none-append (chain_conditions (Some A) s a) (chain_conditions (Some B) s b)).0 none in
             let whole : length s % 3 ≡ 0 =
             test-stable _ (test-eqb (length s % 3) 0) (λ partial. not-partial (Nowhere, (refl, partial))) in
-            let (ends-a, _) = (none-chain (Of A) s a).0 none-a in let (ends-b, _) = (none-chain (Of B) s b).0 none-b in
+            let (ends-a, _) = (none-chain (Some A) s a).0 none-a in let (ends-b, _) = (none-chain (Some B) s b).0 none-b in
             compared whole ends-a ends-b (rw (records-as-comparing whole ends-a ends-b)
             (is-comparison (chain_list s a) (chain_list s b) allowance))
 
     -- where both cases of rule 7.8 apply they say the same
-    pub records_comparison-unique : {result : Comparison} → IsRecordsComparison s a b allowance result
+    pub records_comparison-unique : {result : Result Report Refusal} → IsRecordsComparison s a b allowance result
         → result ≡ records_comparison s a b allowance
     records_comparison-unique (refused r fault is) = is ∙ sym ((records-refuses r).1 fault)
     records_comparison-unique (compared whole ends-a ends-b is) =
         comparison-unique _ _ allowance is ∙ sym (records-as-comparing whole ends-a ends-b)
 
-    pub call-promises : {result : Comparison} → result ≡ records_comparison s a b allowance
+    pub call-promises : {result : Result Report Refusal} → result ≡ records_comparison s a b allowance
         → (result ≡ records_comparison s a b allowance) × IsRecordsComparison s a b allowance result
     call-promises is = (is, rw is is-records-comparison)
 
 -- ---- faults, by what they are of
-module _ (whose : RefusedSide) (s : List ℤ) (start : ℤ) {r : Refusal} where
+module _ (whose : Option Side) (s : List ℤ) (start : ℤ) {r : Refusal} where
   -- of an index
   pub index-fault : FirstFault (index_conditions whose s start) r → FirstFault (chain_conditions whose s start) r
   index-fault fault =
@@ -219,58 +218,58 @@ module _ (whose : RefusedSide) (s : List ℤ) (start : ℤ) {r : Refusal} where
 module _ (s : List ℤ) (a b : ℤ) where
   -- of the store's length
   pub partial-fault : length s % 3 ≢ 0
-      → FirstFault (records_conditions s a b) (record { number = 10; side = Of A; place = Nowhere })
+      → FirstFault (records_conditions s a b) (record { fault = PartialRecord; side = Some A; place = Nowhere })
   partial-fault partial = inl (Nowhere, (refl, partial), refl)
 
   module _ (whole : length s % 3 ≡ 0) {r : Refusal} where
-    both-faults : FirstFault (chain_conditions (Of A) s a) r
-        ⊎ (NoneApplies (chain_conditions (Of A) s a) × FirstFault (chain_conditions (Of B) s b) r)
+    both-faults : FirstFault (chain_conditions (Some A) s a) r
+        ⊎ (NoneApplies (chain_conditions (Some A) s a) × FirstFault (chain_conditions (Some B) s b) r)
         → FirstFault (records_conditions s a b) r
     both-faults fault = inr (
       nowhere-plain (λ partial. partial whole),
-      (fault-append (chain_conditions (Of A) s a) (chain_conditions (Of B) s b) r).1 fault,
+      (fault-append (chain_conditions (Some A) s a) (chain_conditions (Some B) s b) r).1 fault,
     )
 
     -- of A
-    pub fault-a : FirstFault (chain_conditions (Of A) s a) r → FirstFault (records_conditions s a b) r
+    pub fault-a : FirstFault (chain_conditions (Some A) s a) r → FirstFault (records_conditions s a b) r
     fault-a fault = both-faults (inl fault)
 
     -- of B, where A's outline is accepted
-    pub fault-b : (o : Orientation) → Ends s a → AcceptedAs o (chain_list s a) → FirstFault (chain_conditions (Of B) s b) r
+    pub fault-b : (o : Orientation) → Ends s a → AcceptedAs o (chain_list s a) → FirstFault (chain_conditions (Some B) s b) r
         → FirstFault (records_conditions s a b) r
     fault-b o ends ok fault =
-        let none = (none-chain (Of A) s a).1 (ends, rw (accepted-orientation o (chain_list s a) ok) ok) in
+        let none = (none-chain (Some A) s a).1 (ends, rw (accepted-orientation o (chain_list s a) ok) ok) in
         both-faults (inr (none, fault))
 
 -- ---- what a chain gets, by what is read of it
-module _ (whose : RefusedSide) (s : List ℤ) (start : ℤ) where
+module _ (whose : Option Side) (s : List ℤ) (start : ℤ) where
   -- a refusal of an index, with the number of the corners that are read as its place
-  read-fault : (number : ℕ) (cs : List Corner) {z : ℤ} → walk s start ≡ record { corners = cs; index = z }
+  read-fault : (fault : Fault) (cs : List Corner) {z : ℤ} → walk s start ≡ record { corners = cs; index = z }
       → FirstFault (index_conditions whose s start)
-      (record { number = number; side = whose; place = At (length (walk s start).corners) })
-      → FirstFault (chain_conditions whose s start) (record { number = number; side = whose; place = At (length cs) })
-  read-fault number cs is fault = subst
-      (λ (i : ℕ). FirstFault (chain_conditions whose s start) (record { number = number; side = whose; place = At i }))
-      (ap (λ (w : Walk). length w.corners) is) (index-fault whose s start fault)
+      (record { fault = fault; side = whose; place = At (length (walk s start).corners) })
+      → FirstFault (chain_conditions whose s start) (record { fault = fault; side = whose; place = At (length cs) })
+  read-fault fault cs is applies = subst
+      (λ (i : ℕ). FirstFault (chain_conditions whose s start) (record { fault = fault; side = whose; place = At i }))
+      (ap (λ (w : Walk). length w.corners) is) (index-fault whose s start applies)
 
   module _ (cs : List Corner) (z : ℤ) (reads : Reads (records s) start cs z) (other : z ≢ pos 0) where
     -- 256 indexes, one after the other, name records, and the next is not zero: that gets 11
     pub long-fault : length cs ≡ most
-        → FirstFault (chain_conditions whose s start) (record { number = 11; side = whose; place = At (length cs) })
+        → FirstFault (chain_conditions whose s start) (record { fault = ChainTooLong; side = whose; place = At (length cs) })
     unfolding walk_from
     long-fault long =
         let is : walk s start ≡ record { corners = cs; index = z } = walk_from-unique (records s) most start cs z
         (record { reads = reads; at_most = omega arith; stops = inl long }) in
-        read-fault 11 cs is (walk-long whose s start (rw is other) (rw is long))
+        read-fault ChainTooLong cs is (walk-long whose s start (rw is other) (rw is long))
 
     -- fewer, and the next is not zero and names none: that gets 12
     pub bad-fault : length cs < most → ¬ Names (records s) z
-        → FirstFault (chain_conditions whose s start) (record { number = 12; side = whose; place = At (length cs) })
+        → FirstFault (chain_conditions whose s start) (record { fault = NoSuchRecord; side = whose; place = At (length cs) })
     unfolding walk_from
     bad-fault fewer none =
         let is : walk s start ≡ record { corners = cs; index = z } = walk_from-unique (records s) most start cs z
         (record { reads = reads; at_most = omega arith; stops = inr none }) in
-        read-fault 12 cs is (walk-bad whose s start (rw is other) (rw is (λ full. omega arith)))
+        read-fault NoSuchRecord cs is (walk-bad whose s start (rw is other) (rw is (λ full. omega arith)))
 
 -- ---- chains of more than 256 records
 abbrev pub LongChain : List ℤ → ℤ → Type 0
@@ -282,26 +281,26 @@ pub cycle-long : (s : List ℤ) (start z : ℤ) (cs : List Corner) (d : Corner) 
 cycle-long s start z cs d ds along round = cycle-reads (records s) z d ds round most start cs along
 
 -- its place is 256
-long-at-most : (whose : RefusedSide) (s : List ℤ) (start : ℤ) → LongChain s start
-    → FirstFault (chain_conditions whose s start) (record { number = 11; side = whose; place = At most })
+long-at-most : (whose : Option Side) (s : List ℤ) (start : ℤ) → LongChain s start
+    → FirstFault (chain_conditions whose s start) (record { fault = ChainTooLong; side = whose; place = At most })
 long-at-most whose s start (cs, z, reads, long, other) = subst
-    (λ (i : ℕ). FirstFault (chain_conditions whose s start) (record { number = 11; side = whose; place = At i }))
+    (λ (i : ℕ). FirstFault (chain_conditions whose s start) (record { fault = ChainTooLong; side = whose; place = At i }))
     long (long-fault whose s start cs z reads other long)
 
 -- so the call refuses a long one: of A, and of B where A's outline is accepted
 module _ (s : List ℤ) (a b : ℤ) (allowance : ℕ) (whole : length s % 3 ≡ 0) where
   pub long-a : LongChain s a
-      → records_comparison s a b allowance ≡ Refused (record { number = 11; side = Of A; place = At most })
-  long-a long = (records-refuses s a b allowance _).1 (fault-a s a b whole (long-at-most (Of A) s a long))
+      → records_comparison s a b allowance ≡ Err (record { fault = ChainTooLong; side = Some A; place = At most })
+  long-a long = (records-refuses s a b allowance _).1 (fault-a s a b whole (long-at-most (Some A) s a long))
 
   pub long-b : (o : Orientation) → Ends s a → AcceptedAs o (chain_list s a) → LongChain s b
-      → records_comparison s a b allowance ≡ Refused (record { number = 11; side = Of B; place = At most })
+      → records_comparison s a b allowance ≡ Err (record { fault = ChainTooLong; side = Some B; place = At most })
   long-b o ends ok long =
-      (records-refuses s a b allowance _).1 (fault-b s a b whole o ends ok (long-at-most (Of B) s b long))
+      (records-refuses s a b allowance _).1 (fault-b s a b whole o ends ok (long-at-most (Some B) s b long))
 
 -- ---- a start of zero gets 2
-pub zero-fault : (whose : RefusedSide) (s : List ℤ)
-    → FirstFault (chain_conditions whose s (pos 0)) (record { number = 2; side = whose; place = Nowhere })
+pub zero-fault : (whose : Option Side) (s : List ℤ)
+    → FirstFault (chain_conditions whose s (pos 0)) (record { fault = TooFew; side = whose; place = Nowhere })
 unfolding corners
 zero-fault whose s =
     let none = walk-zero s in
@@ -313,7 +312,7 @@ abbrev Neither : ℕ → Type 0
 Neither i = (i ≢ 1) × (i ≢ 3)
 
 -- two numbers for each corner, and at most 256 corners
-chain-numbers : (whose : RefusedSide) (s : List ℤ) (start : ℤ) → AllApplying Neither (chain_conditions whose s start)
+chain-numbers : (whose : Option Side) (s : List ℤ) (start : ℤ) → AllApplying Neither (chain_conditions whose s start)
 chain-numbers whose s start =
     let cs = (walk s start).corners in
     let count : length (corners (chain_list s start)) ≡ length cs = ap length (corners-coordinates cs) in
@@ -327,12 +326,12 @@ chain-numbers whose s start =
     and (λ _. (omega arith, omega arith))
     and tt
 
-pub never-1-or-3 : (s : List ℤ) (a b : ℤ) (allowance : ℕ) (r : Refusal) → records_comparison s a b allowance ≡ Refused r
-    → (r.number ≢ 1) × (r.number ≢ 3)
+pub never-1-or-3 : (s : List ℤ) (a b : ℤ) (allowance : ℕ) (r : Refusal) → records_comparison s a b allowance ≡ Err r
+    → (number r.fault ≢ 1) × (number r.fault ≢ 3)
 never-1-or-3 s a b allowance r is =
     fault-applying Neither (records_conditions s a b) r
-    ((λ _. (omega arith, omega arith)) and applying-append Neither (chain_conditions (Of A) s a) (chain_conditions (Of B) s b)
-    (chain-numbers (Of A) s a) (chain-numbers (Of B) s b))
+    ((λ _. (omega arith, omega arith)) and applying-append Neither (chain_conditions (Some A) s a) (chain_conditions (Some B) s b)
+    (chain-numbers (Some A) s a) (chain-numbers (Some B) s b))
     ((records-refuses s a b allowance r).0 is)
 
 -- ---- record 0 is never read
@@ -344,7 +343,7 @@ records-record-0 x y next x' y' next' s a b allowance =
 
 -- ---- for the code: both chains end, and their corners stand in lists
 pub chains-compared : (s : List ℤ) (a b : ℤ) (allowance : ℕ) {n m : ℕ} {p q : List ℤ}
-    → ReadsChains s a b (ChainsVerdict.Ended n m) p q
+    → ReadsChains s a b (Ok (n, m)) p q
     → comparison (take n p) (take m q) allowance ≡ records_comparison s a b allowance
 chains-compared s a b allowance (whole, in-a, in_b) =
     rw (in-a.written, in_b.written) (sym (records-as-comparing s a b allowance whole in-a.ends in_b.ends))

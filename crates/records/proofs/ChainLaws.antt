@@ -12,21 +12,22 @@
 --     walk-zero                a start of zero gives none
 --     walk-record-0            record 0 is never read
 -- For the code:
---     not_negative, record_number-negative, record_number-size, record_number-above    what its tests tell
---     record_number-suc, record_number-zero    what the number tells of the index
+--     record_number-some, record_number-none    what the number of the record tells of the index
 use Prim.Native.Nat.{ℕ, zero, suc, ◌+◌, ◌-◌, ◌*◌, ◌/◌, ◌≤◌, ◌<◌}
-use mathlib.Core.Bool.{Bool, true, false, true≢false, cond}
+use mathlib.Core.Bool.{Bool, true, false, cond, ◌&&◌}
 use mathlib.Core.Path.{◌≡◌, refl, sym, ap, ◌∙◌}
 use mathlib.Core.Logic.{◌≢◌, ◌⊎◌, inl, inr, ⊎_elim}
 use mathlib.Core.List.{List, [], ◌∷◌}
 use native.Mathlib.Omega.{arith}
-use borrow.Author.Tests.{lt-ltb, le-ltb, ltb-true, ltb-false}
-use lib.Dec.{T, ltb}
-use lib.IntN.{ℤ, pos, negsuc, nat_abs}
+use borrow.Author.Tests.{lt-ltb, ltb-true, ltb-false}
+use lib.Dec.{ltb}
+use lib.IntN.{ℤ, pos, negsuc}
 use lib.ListN.{length, get_or}
-use lib.Signed.{lt_z, non_neg, ◌<ℤ◌, ◌≤ℤ◌}
+use lib.Signed.{◌<ℤ◌, ◌≤ℤ◌}
+use Rattle.std.proofs.lemmas.Option.{cond_some, none-some}
+use Rattle.std.specs.Prelude.{Some, None}
 use Rattle.integers.proofs.Order.{lt_z-true}
-use Rattle.integers.proofs.Reflect.{≤-≤ℤ}
+use Rattle.integers.proofs.Reflect.{≤-≤ℤ, test-and, test-ltb}
 use Rattle.plane.specs.declared.Corner.{Corner}
 use Rattle.outline.specs.Corners.{most}
 use Rattle.records.specs.declared.Record.{Record}
@@ -214,37 +215,18 @@ pub walk-record-0 : (x y next x' y' next' : ℤ) (s : List ℤ) (start : ℤ)
 unfolding records
 walk-record-0 x y next x' y' next' s start = walk_from-record-0 _ _ (records s) most start
 
--- ---- for the code: the number of the record that an index names, by the tests that it makes
-pub not_negative : (z : ℤ) → lt_z z (pos 0) ≡ false → T (non_neg z)
-not_negative (pos j) not_below = tt
-not_negative (negsuc j) not_below = absurd (true≢false not_below)
-
-pub record_number-negative : (n : ℕ) (z : ℤ) → lt_z z (pos 0) ≡ true → 0 ≡ record_number n z
+-- ---- for the code: where there is a number the index names that record, and else none
+pub record_number-some : (n : ℕ) (z : ℤ) {i : ℕ} → record_number n z ≡ Some i
+    → (j : ℕ) × (i ≡ suc j) × (z ≡ pos (suc j)) × (suc j < n)
 unfolding record_number
-record_number-negative n (pos j) below = absurd (omega (arith, ltb-true j 0 below))
-record_number-negative n (negsuc j) below = refl
+record_number-some n (pos i) is =
+    let (both, same) = cond_some (ltb 0 i && ltb i n) i _ is in
+    let (above, below) = (test-and _ _ (test-ltb 0 i) (test-ltb i n)).0 both in
+    let at : i ≡ suc (i - 1) = omega arith in
+    (i - 1, sym same ∙ at, ap pos at, rw (← at) below)
+record_number-some n (negsuc j) is = absurd (none-some _ is)
 
-pub record_number-size : (n : ℕ) (z : ℤ) → lt_z z (pos 0) ≡ false → nat_abs z < n → nat_abs z ≡ record_number n z
+pub record_number-none : (rs : List Record) (z : ℤ) → record_number (length rs) z ≡ None → ¬ Names rs z
 unfolding record_number
-record_number-size n (pos j) not_below below = rw (lt-ltb j n below)
-record_number-size n (negsuc j) not_below below = absurd (true≢false not_below)
-
-pub record_number-above : (n : ℕ) (z : ℤ) → lt_z z (pos 0) ≡ false → n ≤ nat_abs z → 0 ≡ record_number n z
-unfolding record_number
-record_number-above n (pos j) not_below above = rw (le-ltb j n above)
-record_number-above n (negsuc j) not_below above = absurd (true≢false not_below)
-
--- where it is not 0 the index names that record, and where it is 0 none
-pub record_number-suc : (n : ℕ) (z : ℤ) {i : ℕ} → record_number n z ≡ suc i → (z ≡ pos (suc i)) × (suc i < n)
-unfolding record_number
-record_number-suc n (pos j) {i} is = by-test (ltb j n) refl is
-  where
-    by-test : (t : Bool) → ltb j n ≡ t → cond t j 0 ≡ suc i → (pos j ≡ pos (suc i)) × (suc i < n)
-    by-test true below is = (ap pos is, omega (arith, ltb-true j n below))
-    by-test false above is = absurd (omega arith)
-record_number-suc n (negsuc j) is = absurd (omega arith)
-
-pub record_number-zero : (rs : List Record) (z : ℤ) → record_number (length rs) z ≡ 0 → ¬ Names rs z
-unfolding record_number
-record_number-zero rs z none (i, at, below) =
-    let same : record_number (length rs) z ≡ suc i = rw (at, lt-ltb (suc i) (length rs) below) in omega arith
+record_number-none rs z none (i, at, below) =
+    none-some (suc i) (sym none ∙ (rw (at, lt-ltb 0 (suc i) (omega arith), lt-ltb (suc i) (length rs) below)))

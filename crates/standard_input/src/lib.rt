@@ -8,7 +8,7 @@ use std::io;
 use std::io::Read;
 
 // Reads until the list is full or the reader is at its end, and gives how many bytes it put at the start of the list.
-// Where a read fails, what it put there is left in it.
+// Where a read fails, what it put there is left in it. (`read_to_end` needs a heap, and `read_exact` fails at an early end.)
 pub fn fill<R: Read>(reader: &mut R, bytes: &mut [u8]) -> io::Result<usize>
     ensures within { IfOk result (λ n. n ≤ length bytes.new) }
     ensures read { IfOk result (λ n.

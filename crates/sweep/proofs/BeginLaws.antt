@@ -3,15 +3,15 @@
 --     begins-after     a state with these support corners, all edges to come and no worst is the sweep after no steps
 -- The search for such a corner that `lowest` makes:
 --     Searching        the invariant: of the corners numbered below i, `found` is the lowest, of several the leftmost
---     search-start, search-end    at the start; after the last corner
 --     search-lower, search-on     a turn that finds a lower corner; one that does not
 use Prim.Native.Nat.{ℕ, ◌+◌, ◌<◌, ◌≤◌}
-use borrow.Author.Count.{below_none, below_more}
+use borrow.Author.Count.{below_more}
 use mathlib.Core.Path.{◌≡◌, sym, ◌∙◌}
 use mathlib.Core.Bool.{true, false}
 use mathlib.Core.List.{List}
 use native.Mathlib.Omega.{arith}
 use lib.ListN.{length}
+use Rattle.std.specs.Prelude.{None}
 use Rattle.plane.specs.declared.Corner.{Corner}
 use Rattle.plane.specs.Height.{NotAfter}
 use Rattle.plane.specs.code.Tests.{is_lower}
@@ -20,7 +20,6 @@ use Rattle.outline.specs.code.Polygon.{Polygon}
 use Rattle.outline.specs.Corners.{corner}
 use Rattle.outline.proofs.EdgeLaws.{corner-number}
 use Rattle.outline.specs.declared.Side.{Side}
-use Rattle.hausdorff.specs.declared.WorstSoFar.TheVariants.{None}
 use Rattle.hausdorff.specs.Pair.{Pair, Orientations}
 use Rattle.hausdorff.specs.code.Pair.{Polygons}
 use Rattle.hausdorff.specs.code.Sweep.{worst_after}
@@ -53,10 +52,6 @@ pub record Searching (cs : List Corner) (found i : ℕ) : Type 0 where
   pub known : found < i
   pub lowest : (j : ℕ) → j < i → NotAfter (corner cs found) (corner cs j)
 
--- the first corner alone
-pub search-start : {cs : List Corner} → 1 ≤ length cs → Searching cs 0 1
-search-start some = record { turn = some; known = omega arith; lowest = below_more _ 0 (below_none _) (not-after-refl _) }
-
 module _ {cs : List Corner} {found i : ℕ} (below : i < length cs) (searching : Searching cs found i) where
   -- corner i is not after `found`, so it is after none of those that `found` is not after
   pub search-lower : is_lower (corner cs i) (corner cs found) ≡ true → Searching cs i (i + 1)
@@ -74,6 +69,3 @@ module _ {cs : List Corner} {found i : ℕ} (below : i < length cs) (searching :
     known = omega arith;
     lowest = below_more _ i searching.lowest (lower-test _ _ false fails);
   }
-
-pub search-end : {cs : List Corner} {found i : ℕ} → Searching cs found i → length cs ≤ i → LowestLeftmost cs found
-search-end searching past = record { known = omega arith; lowest = λ j below. searching.lowest j (omega arith) }

@@ -13,6 +13,7 @@ use mathlib.Mathlib.Data.Bool.Basic.{or-eq-false-eq-eq-false-and-eq-false}
 use native.Mathlib.Omega.{arith}
 use lib.Dec.{ltb}
 use lib.ListN.{length}
+use Rattle.std.specs.Prelude.{Option, None, Some}
 use Rattle.integers.specs.Fraction.{is_less}
 use Rattle.plane.specs.declared.Corner.{Corner}
 use Rattle.outline.specs.code.Polygon.{Polygon}
@@ -26,8 +27,6 @@ use Rattle.outline.specs.declared.Orientation.{Orientation}
 use Rattle.outline.specs.declared.Side.{Side}
 use Rattle.outline.specs.declared.Side.TheVariants.{A, B}
 use Rattle.hausdorff.specs.declared.CornerGap.{CornerGap}
-use Rattle.hausdorff.specs.declared.WorstSoFar.{WorstSoFar}
-use Rattle.hausdorff.specs.declared.WorstSoFar.TheVariants.{None, Worst}
 use Rattle.hausdorff.specs.Pair.{Pair, Orientations, both_orientations, given, other, same_side, step_count}
 use Rattle.hausdorff.specs.code.Pair.{AcceptedPair, Polygons}
 use Rattle.hausdorff.specs.AngularOrder.{PairEdge}
@@ -50,7 +49,7 @@ use Rattle.measuring.specs.declared.Window.{Window}
 use Rattle.measuring.specs.declared.LocalFeature.{LocalFeature}
 use Rattle.measuring.specs.Window.{window_at, given_number, IsWindow}
 use Rattle.measuring.specs.Changes.{BoundedWorst}
-use Rattle.measuring.specs.LocalFeature.{feature_of, counted_feature, is_not_counted, local_values, local_worst, local_given}
+use Rattle.measuring.specs.LocalFeature.{feature_of, counted_feature, local_worst, local_given}
 use Rattle.sweep.specs.State.{side_state, to_come, IsAfter, CanStep, Measurable, BoundedState, Passable}
 use Rattle.sweep.specs.State.{advanced, passed, changes_worst, with_worst}
 use Rattle.measuring.proofs.GapSizes.{worst-bounded}
@@ -58,13 +57,13 @@ use Rattle.measuring.proofs.ChangesLaws.{keeps-old}
 use Rattle.sweep.proofs.NextEdge.{is_next_b, next_side, next_edge, next-to-come, step-to-come}
 
 -- v's nearest feature, if it counts in the outline that w is a window of
-abbrev pub IsLocalFeature : Window → Window → LocalFeature → Type 0
+abbrev pub IsLocalFeature : Window → Window → Option LocalFeature → Type 0
 IsLocalFeature v w f = (seen : IsWindow w) → feature_of w f ≡ counted_feature seen.outline w.number v.corner
 
 -- Its numbers do not matter to the size of a gap.
-given-bounded : (pair : Pair) (os : Orientations) (x : WorstSoFar) → BoundedWorst x → BoundedWorst (given_worst pair os x)
+given-bounded : (pair : Pair) (os : Orientations) (x : Option CornerGap) → BoundedWorst x → BoundedWorst (given_worst pair os x)
 given-bounded pair os None bounded = tt
-given-bounded pair os (Worst w) bounded = bounded
+given-bounded pair os (Some w) bounded = bounded
 
 -- What the sweep keeps is bounded.
 pub after-bounded : (pair : Pair) (os : Orientations) → AcceptedPair pair → (k : ℕ) {state : State}
@@ -75,37 +74,37 @@ after-bounded pair os accepted k is_after = let bounded = worst-bounded pair os 
 }
 
 -- what measuring finds of corner i, at v: none where the feature is Within
-abbrev worst_at : Side → ℕ → List Corner → Corner → Feature → WorstSoFar
+abbrev worst_at : Side → ℕ → List Corner → Corner → Feature → Option CornerGap
 worst_at s i cs v Feature.Within = None
-worst_at s i cs v (Feature.Corner j) = Worst (with_corner s i (values cs v (Feature.Corner j)))
-worst_at s i cs v (Feature.Edge j) = Worst (with_corner s i (values cs v (Feature.Edge j)))
+worst_at s i cs v (Feature.Corner j) = Some (with_corner s i (values cs v (Feature.Corner j)))
+worst_at s i cs v (Feature.Edge j) = Some (with_corner s i (values cs v (Feature.Edge j)))
 
 module _ (s : Side) (i : ℕ) {cs : List Corner} (polygon : Polygon cs) (b : ℕ) (below : b < length cs) (v : Corner) where
   -- The window's corners are those of the feature; the edge before ends at the support corner.
-  local_worst-worst_at : (f : LocalFeature)
+  local_worst-worst_at : (f : Option LocalFeature)
       → local_worst s i v (window_at cs b) f ≡ worst_at s i cs v (feature_of (window_at cs b) f)
-  local_worst-worst_at LocalFeature.NotCounted = refl
-  local_worst-worst_at LocalFeature.Corner = refl
-  local_worst-worst_at LocalFeature.EdgeAfter = refl
-  local_worst-worst_at LocalFeature.EdgeBefore = rw (next-previous (length cs) b below)
-  local_worst-worst_at LocalFeature.CornerAfter = refl
-  local_worst-worst_at LocalFeature.CornerBefore = refl
+  local_worst-worst_at None = refl
+  local_worst-worst_at (Some LocalFeature.Corner) = refl
+  local_worst-worst_at (Some LocalFeature.EdgeAfter) = refl
+  local_worst-worst_at (Some LocalFeature.EdgeBefore) = rw (next-previous (length cs) b below)
+  local_worst-worst_at (Some LocalFeature.CornerAfter) = refl
+  local_worst-worst_at (Some LocalFeature.CornerBefore) = refl
 
   -- A feature at the support corner is not Within.
   support-worst : (g : Feature) → AtSupport (length cs) b g
-      → worst_at s i cs v g ≡ Worst (with_corner s i (values cs v g))
+      → worst_at s i cs v g ≡ Some (with_corner s i (values cs v g))
   support-worst Feature.Within none = absurd none
   support-worst (Feature.Corner j) near = refl
   support-worst (Feature.Edge j) near = refl
 
   -- So what is found is v's gap if v counts, and else none.
-  counted-worst : (f : LocalFeature) → feature_of (window_at cs b) f ≡ counted_feature cs b v
-      → local_worst s i v (window_at cs b) f ≡ cond (is_counted cs b v) (Worst (with_corner s i (nearest cs v))) None
+  counted-worst : (f : Option LocalFeature) → feature_of (window_at cs b) f ≡ counted_feature cs b v
+      → local_worst s i v (window_at cs b) f ≡ cond (is_counted cs b v) (Some (with_corner s i (nearest cs v))) None
   counted-worst f finds = local_worst-worst_at f ∙ ap (worst_at s i cs v) finds ∙ go (is_counted cs b v) refl
     where
       go : (t : Bool) → is_counted cs b v ≡ t
           → worst_at s i cs v (cond t (feature cs v) Feature.Within)
-          ≡ cond t (Worst (with_corner s i (nearest cs v))) None
+          ≡ cond t (Some (with_corner s i (nearest cs v))) None
       go true counts = support-worst (feature cs v) ((counted-iff polygon b below v).0 counts)
       go false not-counted = refl
 
@@ -172,7 +171,7 @@ module _ (pair : Pair) (os : Orientations) (k : ℕ) {a b : Window}
       (passed-either pair m (measured_side pair os k) equal (is_next_b pair k) s)
 
 -- Neither side changes, so both keep their old worst.
-stays : (state : State) (o q : Orientation) (a b : Window) (local-a local-b : LocalFeature)
+stays : (state : State) (o q : Orientation) (a b : Window) (local-a local-b : Option LocalFeature)
     → changes_worst o q a b local-a local-b state ≡ false → with_worst o q a b local-a local-b state ≡ state
 stays state o q a b local-a local-b same =
     let (same-a, same-b) = (or-eq-false-eq-eq-false-and-eq-false _ _).0 same in
@@ -182,32 +181,32 @@ stays state o q a b local-a local-b same =
     )
 
 -- the worst so far, if there is one, is of a corner of side s
-abbrev OfSide : Side → WorstSoFar → Type 0
+abbrev OfSide : Side → Option CornerGap → Type 0
 OfSide s None = Unit {0}
-OfSide s (Worst w) = w.side ≡ s
+OfSide s (Some w) = w.side ≡ s
 
-worst-of-side : (pair : Pair) (os : Orientations) (k : ℕ) (s : Side) (x : WorstSoFar) → IsSideWorst pair os k s x
+worst-of-side : (pair : Pair) (os : Orientations) (k : ℕ) (s : Side) (x : Option CornerGap) → IsSideWorst pair os k s x
     → OfSide s x
 worst-of-side pair os k s None none = tt
-worst-of-side pair os k s (Worst w) leads = leads.among.0
+worst-of-side pair os k s (Some w) leads = leads.among.0
 
 measured-of-side : (pair : Pair) (support : Side → ℕ) (s : Side) → OfSide s (measured pair support s)
 unfolding measured
 measured-of-side pair support s = go (is_counted (pair (other s)) (support (other s)) (corner (pair s) (support s)))
   where
-    go : (t : Bool) → OfSide s (cond t (Worst (corner_gap pair s (support s))) None)
+    go : (t : Bool) → OfSide s (cond t (Some (corner_gap pair s (support s))) None)
     go true = refl
     go false = tt
 
 module _ (pair : Pair) (os : Orientations) (s : Side) where
   -- What is kept by numbers as given is what is kept, by the lists as given.
-  given-keep : (old new : WorstSoFar) → OfSide s old → OfSide s new
+  given-keep : (old new : Option CornerGap) → OfSide s old → OfSide s new
       → keep (λ i. i) (given_worst pair os old) (given_worst pair os new)
       ≡ given_worst pair os (keep (given pair os s) old new)
   given-keep None new of-old of-new = refl
-  given-keep (Worst old) None of-old of-new = refl
-  given-keep (Worst old) (Worst new) of-old of-new =
-      ap (λ (t : Bool). Worst (cond t (given_gap pair os new) (given_gap pair os old))) same
+  given-keep (Some old) None of-old of-new = refl
+  given-keep (Some old) (Some new) of-old of-new =
+      ap (λ (t : Bool). Some (cond t (given_gap pair os new) (given_gap pair os old))) same
       ∙ go (takes_place (given pair os s) new old)
     where
       same : takes_place (λ i. i) (given_gap pair os new) (given_gap pair os old) ≡ takes_place (given pair os s) new old
@@ -216,20 +215,16 @@ module _ (pair : Pair) (os : Orientations) (s : Side) where
           && ltb (given pair os (of-new i) new.corner) (given pair os (of-old i) old.corner))
 
       go : (t : Bool)
-          → Worst (cond t (given_gap pair os new) (given_gap pair os old)) ≡ given_worst pair os (Worst (cond t new old))
+          → Some (cond t (given_gap pair os new) (given_gap pair os old)) ≡ given_worst pair os (Some (cond t new old))
       go true = refl
       go false = refl
 
   -- What is found of corner i near a support corner, by the lists as given.
-  given-local : (i : ℕ) (v : Corner) (b : ℕ) (f : LocalFeature)
+  given-local : (i : ℕ) (v : Corner) (b : ℕ) (f : Option LocalFeature)
       → local_given s (given pair os s i) v (os (other s)) (window_at (pair (other s)) b) f
       ≡ given_worst pair os (local_worst s i v (window_at (pair (other s)) b) f)
-  given-local i v b f = go (is_not_counted f) (with_corner s i (local_values v (window_at (pair (other s)) b) f))
-    where
-      go : (t : Bool) (w : CornerGap)
-          → cond t None (Worst (given_gap pair os w)) ≡ given_worst pair os (cond t None (Worst w))
-      go true w = refl
-      go false w = refl
+  given-local i v b None = refl
+  given-local i v b (Some f) = refl
 
 module _ {state : State} {a b : Window} {o q : Orientation} (can : CanStep state a b o q) where
   abbrev os : Orientations
@@ -277,7 +272,7 @@ module _ {state : State} {a b : Window} {o q : Orientation} (can : CanStep state
       some remaining false above = omega arith
 
   -- What is found near the support corners is what the sweep measures.
-  measured-part : (s : Side) (f : LocalFeature) → IsLocalFeature (window_of a b s) (window_of a b (other s)) f → record {
+  measured-part : (s : Side) (f : Option LocalFeature) → IsLocalFeature (window_of a b s) (window_of a b (other s)) f → record {
     support = (side_state state s).support;
     remaining = (side_state state s).remaining;
     worst = keep (λ i. i) (side_state state s).worst
@@ -307,7 +302,7 @@ module _ {state : State} {a b : Window} {o q : Orientation} (can : CanStep state
             (measured-of-side can.pair support s) i;
       })
 
-  module _ (local-a local-b : LocalFeature) where
+  module _ (local-a local-b : Option LocalFeature) where
     pub measured-passable : Passable (with_worst o q a b local-a local-b state) a b
     measured-passable = record {
       measurable = step-passable.measurable;

@@ -1,13 +1,12 @@
 -- The state of the sweep as code, and how it stands for the sweep of section 5. What the parts of a step do is for the
 -- code alone: `proofs/StepLaws.antt` shows that together they are a step.
-use Rattle.std.specs.Prelude.{ℕ, ◌+◌, ◌-◌, ◌<◌, ◌≡◌, Bool, cond, not, ◌&&◌, ◌||◌, eqb, ℤ, pos, length, drop}
+use Rattle.std.specs.Prelude.{ℕ, ◌+◌, ◌-◌, ◌<◌, ◌≡◌, Bool, cond, not, ◌&&◌, ◌||◌, eqb, ℤ, pos, length, drop, Option, None}
 use Rattle.std.specs.Int.Signed.{lt_z}
 use Rattle.plane.specs.Vector.{◌⇀◌, cross}
 use Rattle.outline.specs.Corners.{next}
 use Rattle.outline.specs.declared.Orientation.{Orientation}
 use Rattle.outline.specs.declared.Side.{Side}
 use Rattle.outline.specs.declared.Side.TheVariants.{A, B}
-use Rattle.hausdorff.specs.declared.WorstSoFar.TheVariants.{None}
 use Rattle.hausdorff.specs.Pair.{Pair, Orientations, both_orientations, step_count}
 use Rattle.hausdorff.specs.code.Pair.{AcceptedPair}
 use Rattle.hausdorff.specs.AngularOrder.{angular_order}
@@ -89,13 +88,13 @@ passed a b state =
     (record { a = advanced a.count state.a; b = state.b })
 
 -- measuring changes the worst so far of a side
-abbrev pub changes_worst : Orientation → Orientation → Window → Window → LocalFeature → LocalFeature → State → Bool
+abbrev pub changes_worst : Orientation → Orientation → Window → Window → Option LocalFeature → Option LocalFeature → State → Bool
 changes_worst o q a b local-a local-b state =
     changes (given_number o a) a.corner b local-a state.a.worst
     || changes (given_number q b) b.corner a local-b state.b.worst
 
 -- the state measured, both ways
-abbrev pub with_worst : Orientation → Orientation → Window → Window → LocalFeature → LocalFeature → State → State
+abbrev pub with_worst : Orientation → Orientation → Window → Window → Option LocalFeature → Option LocalFeature → State → State
 with_worst o q a b local-a local-b state = record {
   a = record {
     support = state.a.support;

@@ -2,19 +2,18 @@
 #![tactic(auto)]
 
 ghost use Rattle.std.specs.Prelude.{◌≡◌, suc, ◌<◌};
-ghost use Rattle.outline.specs.Convex.{Accepted};
-ghost use Rattle.outline.specs.Corners.{corners};
-ghost use Rattle.outline.specs.Orientation.{as_held};
+ghost use Rattle.reading.specs.Accepted.{accepted_corners};
 ghost use Rattle.hausdorff.specs.Pair.{both_orientations};
 ghost use Rattle.hausdorff.specs.code.Lowest.{LowestLeftmost};
 ghost use Rattle.sweep.specs.State.{IsAfter, CanStep, beginning};
 ghost use Rattle.sweep.specs.State.{Measurable, BoundedState, Passable, b_is_next, advanced, passed};
 ghost use Rattle.sweep.specs.State.{changes_worst, with_worst};
 
-use hausdorff::WorstSoFar;
+use hausdorff::{CornerGap, Sides};
 use measuring::{LocalFeature, Window};
 use outline::{Orientation, Side};
-use reading::corners::{count, held_corner, next};
+use reading::accepted::AcceptedOutline;
+use reading::corners::next;
 
 // One outline's part of the sweep: its support corner, how many of its edges are still to be passed,
 // and the worst so far of its corners, by the lists as given.
@@ -22,32 +21,15 @@ use reading::corners::{count, held_corner, next};
 pub struct SideState {
     pub support: usize,
     pub remaining: usize,
-    pub worst: WorstSoFar,
+    pub worst: Option<CornerGap>,
 }
 
-// The sweep's state, one part for each side.
+// The sweep's state, one part for each side. It is no `Sides`, which is of another crate and so could not have the
+// method `step`.
 #[derive(Clone, Copy)]
 pub struct State {
     pub a: SideState,
     pub b: SideState,
-}
-
-// Whether the next edge is B's: if A has none left, or both have some and B's is strictly first. Directions that
-// are compared are less than half a turn apart (`proofs/NextEdge.antt`), so the sign of the side number decides.
-fn b_is_next(a: Window, b: Window, remaining_a: usize, remaining_b: usize) -> bool
-    requires { Measurable a b }
-    ensures { result ≡ b_is_next a b remaining_a remaining_b }
-{
-    if remaining_a == 0 {
-        return true;
-    }
-    if remaining_b == 0 {
-        return false;
-    }
-    plane::cross(
-        plane::difference(a.corner, a.after),
-        plane::difference(b.corner, b.after),
-    ) < 0
 }
 
 impl SideState {
@@ -57,30 +39,48 @@ impl SideState {
         requires remaining_nonzero { 0 < self.remaining }
         ensures { result ≡ advanced count self }
     {
-        let mut next_state = self;
-        next_state.support = next(count, self.support);
-        next_state.remaining = self.remaining - 1;
-        next_state
+        SideState {
+            support: next(count, self.support),
+            remaining: self.remaining - 1,
+            ..self
+        }
     }
 }
 
 impl State {
-    // Passes the next edge.
-    fn passed(self, a: Window, b: Window) -> State
-        requires { Passable self a b }
-        ensures { result ≡ passed a b self }
+    // Whether the next edge is B's: if A has none left, or both have some and B's is strictly first. Directions that
+    // are compared are less than half a turn apart (`proofs/NextEdge.antt`), so the sign of the side number decides.
+    fn b_is_next(self, windows: Sides<Window>) -> bool
+        requires { Measurable windows.a windows.b }
+        ensures { result ≡ b_is_next windows.a windows.b self.a.remaining self.b.remaining }
     {
-        let side_a = self.a;
-        let side_b = self.b;
-        if b_is_next(a, b, side_a.remaining, side_b.remaining) {
-            return State {
-                a: side_a,
-                b: side_b.advanced(b.count),
-            };
+        if self.a.remaining == 0 {
+            return true;
         }
-        State {
-            a: side_a.advanced(a.count),
-            b: side_b,
+        if self.b.remaining == 0 {
+            return false;
+        }
+        plane::cross(
+            plane::difference(windows.a.corner, windows.a.after),
+            plane::difference(windows.b.corner, windows.b.after),
+        ) < 0
+    }
+
+    // Passes the next edge.
+    fn passed(self, windows: Sides<Window>) -> State
+        requires { Passable self windows.a windows.b }
+        ensures { result ≡ passed windows.a windows.b self }
+    {
+        if self.b_is_next(windows) {
+            State {
+                b: self.b.advanced(windows.b.count),
+                ..self
+            }
+        } else {
+            State {
+                a: self.a.advanced(windows.a.count),
+                ..self
+            }
         }
     }
 
@@ -88,93 +88,73 @@ impl State {
     // corner and a count only, and builds no worst so far anew.
     fn changes_worst(
         self,
-        of_a: Orientation,
-        of_b: Orientation,
-        a: Window,
-        b: Window,
-        local_a: LocalFeature,
-        local_b: LocalFeature,
+        orientations: Sides<Orientation>,
+        windows: Sides<Window>,
+        found: Sides<Option<LocalFeature>>,
     ) -> bool
-        requires measurable { Measurable a b }
+        requires measurable { Measurable windows.a windows.b }
         requires bounded_state { BoundedState self }
-        ensures { result ≡ changes_worst of_a of_b a b local_a local_b self }
+        ensures { result ≡ changes_worst orientations.a orientations.b windows.a windows.b found.a found.b self }
     {
-        let side_a = self.a;
-        let side_b = self.b;
-        let worst_a = side_a.worst;
-        let worst_b = side_b.worst;
-        if measuring::changes(of_a, a, b, local_a, worst_a) {
-            return true;
-        }
-        measuring::changes(of_b, b, a, local_b, worst_b)
+        measuring::changes(orientations.a, windows.a, windows.b, found.a, self.a.worst)
+            || measuring::changes(orientations.b, windows.b, windows.a, found.b, self.b.worst)
     }
 
     // Measures both ways: the state with the worst so far of each side.
     fn with_worst(
         self,
-        of_a: Orientation,
-        of_b: Orientation,
-        a: Window,
-        b: Window,
-        local_a: LocalFeature,
-        local_b: LocalFeature,
+        orientations: Sides<Orientation>,
+        windows: Sides<Window>,
+        found: Sides<Option<LocalFeature>>,
     ) -> State
-        requires measurable { Measurable a b }
+        requires measurable { Measurable windows.a windows.b }
         requires bounded_state { BoundedState self }
-        ensures { result ≡ with_worst of_a of_b a b local_a local_b self }
+        ensures { result ≡ with_worst orientations.a orientations.b windows.a windows.b found.a found.b self }
     {
-        let side_a = self.a;
-        let side_b = self.b;
-        let worst_a = side_a.worst;
-        let worst_b = side_b.worst;
+        let Sides { a: of_a, b: of_b } = orientations;
+        let Sides { a, b } = windows;
         State {
             a: SideState {
-                support: side_a.support,
-                remaining: side_a.remaining,
-                worst: measuring::keep(Side::A, of_a, a, of_b, b, local_a, worst_a),
+                worst: measuring::keep(Side::A, of_a, a, of_b, b, found.a, self.a.worst),
+                ..self.a
             },
             b: SideState {
-                support: side_b.support,
-                remaining: side_b.remaining,
-                worst: measuring::keep(Side::B, of_b, b, of_a, a, local_b, worst_b),
+                worst: measuring::keep(Side::B, of_b, b, of_a, a, found.b, self.b.worst),
+                ..self.b
             },
         }
     }
 
-    // Rule 5.5: a step first measures and then passes the next edge. `a` and `b` are the windows at the support
-    // corners; of equal gaps the numbers as given decide, by the orientations of the lists. From the sweep after k
-    // steps it gives that after k + 1, which is the definition's step (`step_after` in `proofs/StepLaws.antt`).
-    pub fn step(self, a: Window, b: Window, of_a: Orientation, of_b: Orientation) -> State
-        requires { CanStep self a b of_a of_b }
-        ensures { (can : CanStep self a b of_a of_b) → IsAfter can.pair (both_orientations of_a of_b) (suc can.steps) result }
+    // Rule 5.5: a step first measures and then passes the next edge. `windows` are those at the support corners; of
+    // equal gaps the numbers as given decide, by the orientations of the lists. From the sweep after k steps it gives
+    // that after k + 1, which is the definition's step (`step_after` in `proofs/StepLaws.antt`).
+    pub fn step(self, windows: Sides<Window>, orientations: Sides<Orientation>) -> State
+        requires { CanStep self windows.a windows.b orientations.a orientations.b }
+        ensures { (can : CanStep self windows.a windows.b orientations.a orientations.b) → IsAfter can.pair (both_orientations orientations.a orientations.b) (suc can.steps) result }
     {
-        let local_a = measuring::local_feature(a.corner, b);
-        let local_b = measuring::local_feature(b.corner, a);
-        if !self.changes_worst(of_a, of_b, a, b, local_a, local_b) {
-            return self.passed(a, b);
+        let found = Sides {
+            a: measuring::local_feature(windows.a.corner, windows.b),
+            b: measuring::local_feature(windows.b.corner, windows.a),
+        };
+        if self.changes_worst(orientations, windows, found) {
+            self.with_worst(orientations, windows, found)
+                .passed(windows)
+        } else {
+            self.passed(windows)
         }
-        let measured = self.with_worst(of_a, of_b, a, b, local_a, local_b);
-        measured.passed(a, b)
     }
 }
 
-// The number, as held, of the lowest corner of a list, of several the leftmost: there the outline's first edge in the
-// angular order starts.
-pub fn lowest(s: &[i32], orientation: Orientation) -> usize
-    requires { Accepted (as_held orientation (corners s.now)) }
-    ensures { LowestLeftmost (as_held orientation (corners s.now)) result }
+// The number, as held, of the lowest corner of an outline, of several the leftmost: there its first edge in the angular
+// order starts.
+pub fn lowest(outline: &AcceptedOutline) -> usize
+    ensures { LowestLeftmost (accepted_corners outline.now) result }
 {
-    let n = count(s);
     let mut found = 0;
-    let mut i = 1;
-    while i < n {
-        if plane::is_lower(
-            held_corner(s, orientation, i),
-            held_corner(s, orientation, found),
-        ) {
+    for i in 1..outline.count() {
+        if plane::is_lower(outline.corner(i), outline.corner(found)) {
             found = i;
         }
-        i += 1;
     }
     found
 }
@@ -186,6 +166,6 @@ pub fn beginning(lowest: usize, count: usize) -> SideState
     SideState {
         support: lowest,
         remaining: count,
-        worst: WorstSoFar::None,
+        worst: None,
     }
 }

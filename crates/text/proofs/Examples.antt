@@ -3,7 +3,7 @@ use mathlib.Core.Path.{◌≡◌, refl}
 use mathlib.Core.List.{[], ◌∷◌, map}
 use lib.IntN.{pos, negsuc}
 use lib.ListN.{replicate}
-use Rattle.text.specs.declared.input.Parsed.TheVariants.{Number, Invalid}
+use Rattle.std.specs.Prelude.{Some, None}
 use Rattle.text.specs.Ascii.{ascii}
 use Rattle.text.specs.Decimal.{digits, decimal, signed_decimal}
 use Rattle.text.specs.Number.{all_digits, value_from, natural, number, first_number}
@@ -26,20 +26,20 @@ unfolding words_from
 words-tab = refl
 
 -- zeros may lead, and a minus may stand before 0
-numbers : map number (ascii "-16000" ∷ ascii "00012" ∷ ascii "-0" ∷ []) ≡ Number (negsuc 15999) ∷ Number (pos 12) ∷ Number (pos 0) ∷ []
+numbers : map number (ascii "-16000" ∷ ascii "00012" ∷ ascii "-0" ∷ []) ≡ Some (negsuc 15999) ∷ Some (pos 12) ∷ Some (pos 0) ∷ []
 unfolding number natural all_digits value_from
 numbers = refl
 
 -- six digits, none, a minus that does not stand first, a plus
-no-numbers : map number (ascii "123456" ∷ ascii "-" ∷ ascii "" ∷ ascii "1-2" ∷ ascii "--2" ∷ ascii "+2" ∷ []) ≡ replicate 6 Invalid
+no-numbers : map number (ascii "123456" ∷ ascii "-" ∷ ascii "" ∷ ascii "1-2" ∷ ascii "--2" ∷ ascii "+2" ∷ []) ≡ replicate 6 None
 unfolding number natural all_digits value_from
 no-numbers = refl
 
-first-number : first_number (words (ascii " 5 six")) ≡ Number (pos 5)
+first-number : first_number (words (ascii " 5 six")) ≡ Some (pos 5)
 unfolding words_from number natural all_digits value_from
 first-number = refl
 
-first-no-number : first_number (words (ascii "six 5")) ≡ Invalid
+first-no-number : first_number (words (ascii "six 5")) ≡ None
 unfolding words_from number natural all_digits value_from
 first-no-number = refl
 

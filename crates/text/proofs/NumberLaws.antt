@@ -22,7 +22,7 @@ use lib.IntN.{pos}
 use lib.ListN.{length, get_or, drop}
 use lib.Seq.{drop-cons}
 use Rattle.integers.proofs.Reflect.{test-and, test-leb}
-use Rattle.text.specs.declared.input.Parsed.TheVariants.{Number, Invalid}
+use Rattle.std.specs.Prelude.{Some, None}
 use Rattle.text.specs.Number.{is_digit, all_digits, with_digit, value_from, value, natural, number}
 use Rattle.text.specs.code.Number.{IsShort}
 
@@ -72,15 +72,15 @@ value-below (b ∷ w) n k below all =
     rw more (value-below w (with_digit n b) (suc k) (with-digit-below n b k below digit) rest)
 
 module _ (w : List ℕ) where
-  pub natural-empty : length w ≡ 0 → natural w ≡ Invalid
+  pub natural-empty : length w ≡ 0 → natural w ≡ None
   unfolding natural
   natural-empty none = rw none
 
-  pub natural-long : 5 < length w → natural w ≡ Invalid
+  pub natural-long : 5 < length w → natural w ≡ None
   unfolding natural
   natural-long long = rw (lt-ltb 0 (length w) (omega arith), lt-leb (length w) 5 long)
 
-  pub natural-is : 0 < length w → length w ≤ 5 → natural w ≡ cond (all_digits w) (Number (pos (value w))) Invalid
+  pub natural-is : 0 < length w → length w ≤ 5 → natural w ≡ cond (all_digits w) (Some (pos (value w))) None
   unfolding natural
   natural-is some short = rw (lt-ltb 0 (length w) some, le-leb (length w) 5 short)
 
@@ -90,7 +90,7 @@ unfolding natural
 natural-short w = by_length (ltb 0 (length w)) (leb (length w) 5) (all_digits w) refl refl
   where
     by_length : (some short all : Bool) → leb (length w) 5 ≡ short → all_digits w ≡ all
-        → IsShort (cond (some && short && all) (Number (pos (value w))) Invalid)
+        → IsShort (cond (some && short && all) (Some (pos (value w))) None)
     by_length false short all shorter digits = tt
     by_length true false all shorter digits = tt
     by_length true true false shorter digits = tt

@@ -1,6 +1,6 @@
 -- Laws of the words of a text.
---     run_more, run-stops, run_past    a run from a place on, by the byte that stands there
---     run-≤              a run is no longer than the text
+--     run-prefix         a run is the longest prefix of such bytes
+--     run-≤, run_past    a run is no longer than the text; past the end there is none
 --     NoSeparator, IsWord    no byte of a text is a separator; a word is such a text that is not empty
 --     words-none, words-separator, words-word, words_last    the rules of `words`: the empty text has none, a
 --                                                            separator before a text gives
@@ -15,36 +15,27 @@ use mathlib.Core.List.{List, [], ◌∷◌, ◌++◌, append_assoc, append-nil}
 use mathlib.Core.List.Memᴰ
 use mathlib.Core.List.{Memᴰ}
 use mathlib.Core.Logic.{⊎_elim}
-use native.Mathlib.Numerals.{add-one}
+use native.Mathlib.Numerals.{one-add}
 use native.Mathlib.Omega.{arith}
 use borrow.Author.Tests.{leb-true, leb-false, ltb-true, ltb-false}
 use lib.Dec.{leb, ltb}
-use lib.ListN.{length, get_or, take, drop, length-drop, drop_of_length-le}
-use lib.Seq.{drop-cons, drop-drop, take-append_seam, drop-append_seam}
+use Rattle.std.specs.List.{prefix_len}
+use Rattle.std.proofs.lemmas.List.Sums.{prefix_len-le-length, prefix_len-drop_all}
+use lib.ListN.{length, take, drop, length-drop, drop_of_length-le}
+use lib.Seq.{drop-drop, take-append_seam, drop-append_seam}
 use Rattle.text.specs.Words.{is_separator, ended, words_from, words}
 use Rattle.text.specs.code.Words.{is_of, run, is_empty}
 
-module _ (separators : Bool) (s : List ℕ) (i : ℕ) where
-  pub run_more : i < length s → is_of separators (get_or s i 0) ≡ true → run separators (drop i s) ≡ suc (run separators (drop (i + 1) s))
-  unfolding run
-  run_more below same = rw (add-one, drop-cons s i 0, same)
-
-  pub run-stops : i < length s → is_of separators (get_or s i 0) ≡ false → run separators (drop i s) ≡ 0
-  unfolding run
-  run-stops below other = rw (drop-cons s i 0, other)
-
-  pub run_past : length s ≤ i → run separators (drop i s) ≡ 0
-  unfolding run
-  run_past past = rw (drop_of_length-le s past)
+pub run-prefix : (separators : Bool) (s : List ℕ) → prefix_len (is_of separators) s ≡ run separators s
+unfolding run
+run-prefix separators [] = refl
+run-prefix separators (b ∷ s) = rw (run-prefix separators s, one-add (run separators s))
 
 pub run-≤ : (separators : Bool) (s : List ℕ) → run separators s ≤ length s
-unfolding run
-run-≤ separators [] = omega arith
-run-≤ separators (b ∷ s) = by-test (is_of separators b) (run-≤ separators s)
-  where
-    by-test : (t : Bool) → run separators s ≤ length s → cond t (suc (run separators s)) 0 ≤ suc (length s)
-    by-test true shorter = omega arith
-    by-test false shorter = omega arith
+run-≤ separators s = rw run-prefix at (prefix_len-le-length (is_of separators) s)
+
+pub run_past : (separators : Bool) (s : List ℕ) (i : ℕ) → length s ≤ i → run separators (drop i s) ≡ 0
+run_past separators s i past = rw run-prefix at (prefix_len-drop_all (is_of separators) s i past)
 
 pub words-none : words [] ≡ []
 unfolding words_from

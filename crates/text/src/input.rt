@@ -1,117 +1,82 @@
 // The words of a text and the numbers among them.
-ghost use Rattle.std.specs.Prelude.{◌+◌, ◌<◌, true, ◌≡◌, drop};
-ghost use Rattle.text.specs.Number.{is_digit, with_digit, natural, negated, number, first_number};
-ghost use Rattle.text.specs.code.Number.{IsShort};
+ghost use Rattle.std.specs.Prelude.{◌+◌, ◌<◌, cond, Some, None, ◌≡◌, drop};
+ghost use Rattle.std.specs.List.{prefix_len};
+ghost use Rattle.text.specs.Number.{is_digit, with_digit, natural, number, first_number};
 ghost use Rattle.text.specs.Words.{is_separator, words};
 ghost use Rattle.text.specs.code.Words.{is_of, run, is_empty};
 
 // The most digits of a number.
 const MOST_DIGITS: usize = 5;
 
-// What a word gives: a number, or none.
-#[derive(Clone, Copy)]
-pub enum Parsed {
-    Number(i32),
-    Invalid,
-}
-
-// What the next word of a text gives, and the place after the word.
+// The number that the next word of a text gives, if it gives one, and the place after the word.
 #[derive(Clone, Copy)]
 pub struct Next {
-    pub number: Parsed,
+    pub number: Option<i32>,
     pub end: usize,
 }
 
-fn is_digit(b: u8) -> bool
-    ensures { result ≡ is_digit b }
+// A number with one digit more, where the byte is a digit.
+fn with_digit(value: u32, b: u8) -> Option<u32>
+    requires { value < 10000 }
+    ensures { result ≡ cond (is_digit b) (Some (with_digit value b)) None }
 {
-    b'0' <= b && b <= b'9'
-}
-
-// A number with one digit more.
-fn with_digit(value: u32, b: u8) -> u32
-    requires value_bound { value < 10000 }
-    requires b_value { is_digit b ≡ true }
-    ensures { result ≡ with_digit value b }
-{
-    value * 10 + (b - b'0') as u32
+    let digit = (b as char).to_digit(10)?;
+    Some(value * 10 + digit)
 }
 
 // The value of one to five digits.
-fn natural(w: &[u8]) -> Parsed
+fn natural(w: &[u8]) -> Option<i32>
     ensures { result ≡ natural w.now }
 {
-    let n = w.len();
-    if n == 0 {
-        return Parsed::Invalid;
-    }
-    if MOST_DIGITS < n {
-        return Parsed::Invalid;
+    if w.is_empty() || MOST_DIGITS < w.len() {
+        return None;
     }
     let mut value = 0;
-    let mut i = 0;
-    while i < n {
-        let b = w[i];
-        if !is_digit(b) {
-            return Parsed::Invalid;
-        }
-        value = with_digit(value, b);
-        i += 1;
+    for &b in w {
+        value = with_digit(value, b)?;
     }
-    Parsed::Number(value as i32)
-}
-
-// What digits give after a minus.
-fn negated(digits: Parsed) -> Parsed
-    requires { IsShort digits }
-    ensures { result ≡ negated digits }
-{
-    match digits {
-        Parsed::Number(n) => Parsed::Number(-n),
-        Parsed::Invalid => Parsed::Invalid,
-    }
+    Some(value as i32)
 }
 
 // The number that a word gives: an optional minus, and one to five digits.
-fn number(w: &[u8]) -> Parsed
+fn number(w: &[u8]) -> Option<i32>
     ensures { result ≡ number w.now }
 {
-    if 0 < w.len() && w[0] == b'-' {
-        return negated(natural(&w[1..]));
+    match w.strip_prefix(b"-") {
+        Some(digits) => Some(-natural(digits)?),
+        None => natural(w),
     }
-    natural(w)
 }
 
 // Spaces and line ends split words.
 fn is_separator(b: u8) -> bool
     ensures { result ≡ is_separator b }
 {
-    b == b' ' || b == b'\n'
+    matches!(b, b' ' | b'\n')
 }
 
 // Whether a byte is a separator, or is not.
 fn is_of(separators: bool, b: u8) -> bool
     ensures { result ≡ is_of separators b }
 {
-    if separators {
-        is_separator(b)
-    } else {
-        !is_separator(b)
-    }
+    is_separator(b) == separators
+}
+
+// How many separators a text begins with, or how many other bytes.
+fn run(s: &[u8], separators: bool) -> usize
+    ensures { result ≡ prefix_len (is_of separators) s.now }
+{
+    s.iter().take_while(|b| is_of(separators, **b)).count()
 }
 
 // Where the separators that stand at a place end, or the other bytes.
 fn run_end(s: &[u8], from: usize, separators: bool) -> usize
     ensures { result ≡ from + run separators (drop from s.now) }
 {
-    let mut i = from;
-    while i < s.len() {
-        if !is_of(separators, s[i]) {
-            return i;
-        }
-        i += 1;
-    }
-    i
+    let Some(rest) = s.get(from..) else {
+        return from;
+    };
+    from + run(rest, separators)
 }
 
 // The number that the first word from a place on gives, and a place from which the words after it can be read.
@@ -121,16 +86,12 @@ pub fn next_number(s: &[u8], from: usize) -> Next
 {
     let start = run_end(s, from, true);
     let end = run_end(s, start, false);
-    if end <= start {
-        return Next {
-            number: Parsed::Invalid,
-            end,
-        };
-    }
-    Next {
-        number: number(&s[start..end]),
-        end,
-    }
+    let number = if start < end {
+        number(&s[start..end])
+    } else {
+        None
+    };
+    Next { number, end }
 }
 
 // Whether no word stands from a place on.

@@ -1,5 +1,5 @@
 // A text that is made part by part.
-ghost use Rattle.std.specs.Prelude.{[], ◌≡◌, pos, nat_abs, ◌<ℤ◌};
+ghost use Rattle.std.specs.Prelude.{[], ◌≡◌};
 ghost use Rattle.text.specs.Decimal.{decimal, signed_decimal};
 ghost use Rattle.text.specs.Output.{text_of};
 ghost use Rattle.text.specs.code.Output.{pushed, appended};
@@ -8,18 +8,11 @@ ghost use Rattle.text.specs.code.Output.{pushed, appended};
 const ROOM: usize = 512;
 
 // A text as one value: how many bytes it has, and places for 512 of them, the unused ones zero.
+// A String or a Vec would need a heap; `text_of`, which `fit_text::respond` promises, names these fields.
 #[derive(Clone, Copy)]
 pub struct Text {
     pub count: usize,
     pub bytes: [u8; ROOM],
-}
-
-// The size of a number below 0. That of the least i64 is one more than an i64 holds.
-fn size(n: i64) -> u64
-    requires { n <ℤ pos 0 }
-    ensures { result ≡ nat_abs n }
-{
-    (-1 - n) as u64 + 1
 }
 
 impl Text {
@@ -33,33 +26,28 @@ impl Text {
     }
 
     // The text with one byte more; a full one stays as it is.
-    fn push(self, b: u8) -> Text
+    fn push(mut self, b: u8) -> Text
         ensures { result ≡ pushed self b }
     {
-        let at = self.count;
-        if ROOM <= at {
-            return self;
+        if self.count < ROOM {
+            self.bytes[self.count] = b;
+            self.count += 1;
         }
-        let mut longer = self;
-        longer.bytes[at] = b;
-        longer.count = at + 1;
-        longer
+        self
     }
 
     // The text with the bytes of a list after it.
-    pub fn bytes(self, s: &[u8]) -> Text
+    pub fn bytes(mut self, s: &[u8]) -> Text
         ensures { result ≡ appended self s.now }
     {
-        let mut longer = self;
-        let mut i = 0;
-        while i < s.len() {
-            longer = longer.push(s[i]);
-            i += 1;
+        for &b in s {
+            self = self.push(b);
         }
-        longer
+        self
     }
 
     // The text with a number in decimal after it. It calls itself at most 19 times, one inside the other.
+    // Not by `write!`, which promises the digits on Ok alone; `to_string` needs a heap.
     pub fn natural(self, n: u64) -> Text
         ensures { result ≡ appended self (decimal n) }
     {
@@ -74,7 +62,7 @@ impl Text {
         ensures { result ≡ appended self (signed_decimal n) }
     {
         if n < 0 {
-            self.bytes(b"-").natural(size(n))
+            self.bytes(b"-").natural(n.unsigned_abs())
         } else {
             self.natural(n as u64)
         }

@@ -10,8 +10,10 @@ use mathlib.Core.List.{List}
 use native.Mathlib.Omega.{arith}
 use lib.IntN.{ℤ, pos}
 use lib.ListN.{length, take}
+use Rattle.std.specs.Prelude.{Option}
+use Rattle.outline.specs.declared.Fault.TheVariants.{ChainTooLong, NoSuchRecord}
+use Rattle.outline.specs.declared.Side.{Side}
 use Rattle.outline.specs.declared.Place.TheVariants.{At}
-use Rattle.outline.specs.declared.RefusedSide.{RefusedSide}
 use Rattle.outline.specs.Corners.{most}
 use Rattle.outline.specs.Refusal.{FirstFault}
 use Rattle.records.specs.Chain.{walk, chain_list}
@@ -34,11 +36,11 @@ module _ (s : List ℤ) (start : ℤ) {stop : Stop} (is : stop ≡ stop_of (walk
     written = rw is written;
   }
 
-  module _ (whose : RefusedSide) (other : stop.index ≢ pos 0) where
+  module _ (whose : Option Side) (other : stop.index ≢ pos 0) where
     pub stop-long : stop.count ≡ most
-        → FirstFault (index_conditions whose s start) (record { number = 11; side = whose; place = At stop.count })
+        → FirstFault (index_conditions whose s start) (record { fault = ChainTooLong; side = whose; place = At stop.count })
     stop-long full = rw is (walk-long whose s start (rw is at other) (rw is at full))
 
     pub stop-none : stop.count ≢ most
-        → FirstFault (index_conditions whose s start) (record { number = 12; side = whose; place = At stop.count })
+        → FirstFault (index_conditions whose s start) (record { fault = NoSuchRecord; side = whose; place = At stop.count })
     stop-none fewer = rw is (walk-bad whose s start (rw is at other) (rw is at fewer))

@@ -1,21 +1,21 @@
 -- The proved examples of section 10 of docs/SPECIFICATION.md, and what each claims.
-use Rattle.std.specs.Prelude.{ℕ, ◌≡◌, List, [], ◌∷◌, ◌++◌, ℤ, pos, negsuc, length, replicate}
+use Rattle.outline.specs.code.Checks.{Verdict}
+use Rattle.outline.specs.declared.Fault.{Fault}
+use Rattle.outline.specs.declared.Fault.TheVariants.{OddLength, TooFew, OutOfRange, Repeated, NotLeft, PointOutOfRange, NoSuchCorner, WrongLength, PartialRecord, ChainTooLong, NoSuchRecord}
+use Rattle.hausdorff.specs.declared.Report.{Report}
+use Rattle.std.specs.Prelude.{ℕ, ◌≡◌, List, [], ◌∷◌, ◌++◌, ℤ, pos, negsuc, length, replicate, Option, Some, None, Result, Ok, Err}
 use Rattle.plane.specs.declared.Corner.{Corner}
 use Rattle.outline.specs.declared.Orientation.{Orientation}
 use Rattle.outline.specs.declared.Orientation.TheVariants.{Counterclockwise, Clockwise}
 use Rattle.outline.specs.declared.Refusal.{Refusal}
-use Rattle.outline.specs.declared.Verdict.{Verdict}
-use Rattle.outline.specs.declared.Verdict.TheVariants.{Taken, Refused}
+use Rattle.outline.specs.declared.Outline.{Outline}
+use Rattle.outline.specs.declared.EitherReading.{EitherReading}
 use Rattle.outline.specs.declared.Place.{Place}
 use Rattle.outline.specs.declared.Place.TheVariants.{Nowhere, At, EdgeAndCorner}
-use Rattle.outline.specs.declared.RefusedSide.{RefusedSide}
-use Rattle.outline.specs.declared.RefusedSide.TheVariants.{NoSide, Of}
 use Rattle.outline.specs.code.Either.{orientation_of, held_corners, either_reading}
 use Rattle.outline.specs.code.Reading.{reading}
 use Rattle.outline.specs.Corners.{corners, held}
-use Rattle.hull.specs.declared.HullAnswer.{HullAnswer}
 use Rattle.hull.specs.code.Call.{hull_answer, hull_list, hull_marks}
-use Rattle.nearest.specs.declared.NearestAnswer.{NearestAnswer}
 use Rattle.nearest.specs.declared.Feature.{Feature}
 use Rattle.nearest.specs.declared.NearestPoint.{NearestPoint}
 use Rattle.nearest.specs.Given.{given_nearest}
@@ -26,44 +26,39 @@ use Rattle.edit.specs.code.Insertion.{insertion_verdict, insertion_list}
 use Rattle.outline.specs.declared.Side.{Side}
 use Rattle.outline.specs.declared.Side.TheVariants.{A, B}
 use Rattle.hausdorff.specs.declared.CornerGap.{CornerGap}
-use Rattle.hausdorff.specs.declared.WorstSoFar.{WorstSoFar}
-use Rattle.hausdorff.specs.declared.WorstSoFar.TheVariants.{None, Worst}
-use Rattle.hausdorff.specs.declared.Comparison.{Comparison}
-use Rattle.hausdorff.specs.declared.Report.TheVariants as Report
 use Rattle.hausdorff.specs.AngularOrder.{PairEdge, angular_order}
 use Rattle.hausdorff.specs.Exhaustive.{exhaustive_of, exhaustive}
 use Rattle.hausdorff.specs.Given.{given_gap}
 use Rattle.hausdorff.specs.code.Call.{orientations, pair_of, comparison}
-use Rattle.mismatch.specs.declared.MismatchAnswer.{MismatchAnswer}
 use Rattle.mismatch.specs.code.Call.{mismatch_answer}
 use Rattle.records.specs.code.Call.{records_comparison}
 
 -- a call, what it is handed, and what it answers
 pub data Case : Type 0 where
   -- the strict reading of the list ends so
-  reads_strictly : List ℤ → Verdict → Case
-  -- the default reading ends so, with the corners of another list held, and with this orientation
-  reads : List ℤ → Verdict → List ℤ → Orientation → Case
+  reads_strictly : List ℤ → Result Outline Refusal → Case
+  -- the default reading ends so
+  reads : List ℤ → Result EitherReading Refusal → Case
   -- removing a corner of the list, with a list to write, ends so and leaves that list so
   removes : List ℤ → ℕ → List ℤ → Verdict → List ℤ → Case
   -- inserting a point as a corner of the list, with a list to write, ends so and leaves that list so
   inserts : List ℤ → ℕ → Corner → List ℤ → Verdict → List ℤ → Case
   -- the convex hull of the points of the list, with lists to write for corners and marks, ends so and leaves them so
-  hulls : List ℤ → List ℤ → List ℤ → HullAnswer → List ℤ → List ℤ → Case
+  hulls : List ℤ → List ℤ → List ℤ → Result ℕ Refusal → List ℤ → List ℤ → Case
   -- the nearest point of the list's outline to a point is answered so
-  nears : Corner → List ℤ → NearestAnswer → Case
+  nears : Corner → List ℤ → Result NearestPoint Refusal → Case
   -- the exhaustive search for a point finds this, by the list as given
   searches : Corner → List ℤ → NearestPoint → Case
   -- the angular order of the edges of two lists' outlines, as held, is this
   orders : List ℤ → List ℤ → List PairEdge → Case
   -- comparing the lists with a step allowance ends so
-  compares : List ℤ → List ℤ → ℕ → Comparison → Case
+  compares : List ℤ → List ℤ → ℕ → Result Report Refusal → Case
   -- the exhaustive search finds these for A and for B, and this for both, by the lists as given
   exhausts : List ℤ → List ℤ → CornerGap → CornerGap → CornerGap → Case
   -- the call for the mismatch sum of the lists ends so
-  sums : List ℤ → List ℤ → MismatchAnswer → Case
+  sums : List ℤ → List ℤ → Result ℕ Refusal → Case
   -- comparing the outlines of two chains of a store, by their starts, with a step allowance ends so
-  compares_chains : List ℤ → ℤ → ℤ → ℕ → Comparison → Case
+  compares_chains : List ℤ → ℤ → ℤ → ℕ → Result Report Refusal → Case
 
 -- a corner of two lists' outlines, by the lists as given
 abbrev named : List ℤ → List ℤ → CornerGap → CornerGap
@@ -71,9 +66,8 @@ named s t w = given_gap (pair_of s t) (orientations s t) w
 
 -- what a case claims: the definitions say so
 abbrev pub Holds : Case → Type 0
-Holds (reads_strictly s ends) = (reading NoSide s).verdict ≡ ends
-Holds (reads s ends answer_as_held o) =
-    either_reading NoSide s ≡ record { verdict = ends; outline = held (corners answer_as_held); orientation = o }
+Holds (reads_strictly s ends) = reading None s ≡ ends
+Holds (reads s ends) = either_reading None s ≡ ends
 Holds (removes s k out ends after) = (removal_verdict s k out ≡ ends) × (list_after s k out ≡ after)
 Holds (inserts s k v out ends after) = (insertion_verdict s k v out ≡ ends) × (insertion_list s k v out ≡ after)
 Holds (hulls s out ms ends after marked) =
@@ -232,28 +226,32 @@ abbrev pub eight : List ℤ
 eight = sevens 8
 
 -- refusal 6, with its edge and corner
-abbrev not_left : RefusedSide → ℕ → ℕ → Refusal
-not_left whose e c = record { number = 6; side = whose; place = EdgeAndCorner e c }
+abbrev not_left : Option Side → ℕ → ℕ → Refusal
+not_left whose e c = record { fault = NotLeft; side = whose; place = EdgeAndCorner e c }
 
 -- refusal 2
 abbrev too_few : Refusal
-too_few = record { number = 2; side = NoSide; place = Nowhere }
+too_few = record { fault = TooFew; side = None; place = Nowhere }
 
 -- refusal 7
 abbrev point_out : Refusal
-point_out = record { number = 7; side = NoSide; place = Nowhere }
+point_out = record { fault = PointOutOfRange; side = None; place = Nowhere }
+
+-- the corners of a list, held, with an orientation
+abbrev read_as : List ℤ → Orientation → Result EitherReading Refusal
+read_as as_held o = Ok (record { outline = held (corners as_held); orientation = o })
 
 -- a refusal without a side, with this number and place
-abbrev refusal_with : ℕ → Place → Refusal
-refusal_with number place = record { number = number; side = NoSide; place = place }
+abbrev refusal_with : Fault → Place → Refusal
+refusal_with fault place = record { fault = fault; side = None; place = place }
 
 -- a refusal of a side with this number, without a place
-abbrev refusal_of : Side → ℕ → Refusal
-refusal_of side number = record { number = number; side = Of side; place = Nowhere }
+abbrev refusal_of : Side → Fault → Refusal
+refusal_of side fault = record { fault = fault; side = Some side; place = Nowhere }
 
 -- and with a place of one number
-abbrev refusal_at : Side → ℕ → ℕ → Refusal
-refusal_at side number k = record { number = number; side = Of side; place = At k }
+abbrev refusal_at : Side → Fault → ℕ → Refusal
+refusal_at side fault k = record { fault = fault; side = Some side; place = At k }
 
 -- S, moved by (10,0)
 unfoldable pub moved : List ℤ
@@ -442,8 +440,8 @@ abbrev wide_b1 : CornerGap
 wide_b1 = corner B 1 (Feature.Edge 1) 81 (negsuc 10) (negsuc 6) 10
 
 -- a spent report: the steps made, the support corners of A and B, the worst so far, and that of A and of B
-abbrev spent : ℕ → ℕ → ℕ → WorstSoFar → WorstSoFar → WorstSoFar → Comparison
-spent steps i j worst of_a of_b = Comparison.Reported (Report.Spent (record {
+abbrev spent : ℕ → ℕ → ℕ → Option CornerGap → Option CornerGap → Option CornerGap → Result Report Refusal
+spent steps i j worst of_a of_b = Ok (Report.Spent (record {
   steps = steps;
   support = record { a = i; b = j };
   worst = worst;
@@ -451,8 +449,8 @@ spent steps i j worst of_a of_b = Comparison.Reported (Report.Spent (record {
 }))
 
 -- a done report: the steps made, the answer and its clearance, and the answers of A and B
-abbrev done : ℕ → CornerGap → ℕ → CornerGap → CornerGap → Comparison
-done steps answer clearance of_a of_b = Comparison.Reported (Report.Done (record {
+abbrev done : ℕ → CornerGap → ℕ → CornerGap → CornerGap → Result Report Refusal
+done steps answer clearance of_a of_b = Ok (Report.Done (record {
   steps = steps;
   answer = answer;
   clearance = clearance;
@@ -462,82 +460,82 @@ done steps answer clearance of_a of_b = Comparison.Reported (Report.Done (record
 -- the examples
 abbrev pub cases : List Case
 cases =
-    reads_strictly S Taken
-    ∷ reads_strictly T Taken
-    ∷ reads_strictly star (Refused (not_left NoSide 0 3))
-    ∷ reads_strictly straight (Refused (not_left NoSide 0 2))
-    ∷ reads_strictly clockwise (Refused (not_left NoSide 0 2))
-    ∷ reads_strictly twice (Refused (not_left NoSide 0 3))
-    ∷ reads S Taken S Counterclockwise
-    ∷ reads clockwise Taken T Clockwise
-    ∷ reads square_back Taken square Clockwise
+    reads_strictly S (Ok (held (corners S)))
+    ∷ reads_strictly T (Ok (held (corners T)))
+    ∷ reads_strictly star (Err (not_left None 0 3))
+    ∷ reads_strictly straight (Err (not_left None 0 2))
+    ∷ reads_strictly clockwise (Err (not_left None 0 2))
+    ∷ reads_strictly twice (Err (not_left None 0 3))
+    ∷ reads S (read_as S Counterclockwise)
+    ∷ reads clockwise (read_as T Clockwise)
+    ∷ reads square_back (read_as square Clockwise)
     -- neither orientation: the place is that of the strict reading
-    ∷ reads star (Refused (not_left NoSide 0 3)) [] Counterclockwise
-    ∷ reads straight (Refused (not_left NoSide 0 2)) [] Counterclockwise
-    ∷ reads straight_back (Refused (not_left NoSide 0 2)) [] Counterclockwise
-    ∷ removes S 1 six Taken halved
-    ∷ removes T 0 four (Refused too_few) four
-    ∷ removes T 1 four (Refused too_few) four
-    ∷ removes T 2 four (Refused too_few) four
+    ∷ reads star (Err (not_left None 0 3))
+    ∷ reads straight (Err (not_left None 0 2))
+    ∷ reads straight_back (Err (not_left None 0 2))
+    ∷ removes S 1 six (Ok tt) halved
+    ∷ removes T 0 four (Err too_few) four
+    ∷ removes T 1 four (Err too_few) four
+    ∷ removes T 2 four (Err too_few) four
     -- the list is read strictly
-    ∷ removes clockwise 0 four (Refused (not_left NoSide 0 2)) four
-    ∷ inserts halved 1 (point (pos 4) (pos 0)) eight Taken S
-    ∷ inserts T 2 (point (pos 4) (pos 4)) eight Taken S
+    ∷ removes clockwise 0 four (Err (not_left None 0 2)) four
+    ∷ inserts halved 1 (point (pos 4) (pos 0)) eight (Ok tt) S
+    ∷ inserts T 2 (point (pos 4) (pos 4)) eight (Ok tt) S
     -- before the first corner, and after the last
-    ∷ inserts T 0 (point (negsuc 0) (pos 2)) eight Taken (negsuc 0 ∷ pos 2 ∷ T)
-    ∷ inserts T 3 (point (negsuc 0) (pos 2)) eight Taken (T ++ (negsuc 0 ∷ pos 2 ∷ []))
+    ∷ inserts T 0 (point (negsuc 0) (pos 2)) eight (Ok tt) (negsuc 0 ∷ pos 2 ∷ T)
+    ∷ inserts T 3 (point (negsuc 0) (pos 2)) eight (Ok tt) (T ++ (negsuc 0 ∷ pos 2 ∷ []))
     -- a place past the count; a point out of range; a list to write that is too short for a result that would get 6
-    ∷ inserts T 4 (point (pos 16001) (pos 0)) six (Refused (refusal_with 8 Nowhere)) six
-    ∷ inserts T 3 (point (pos 16001) (pos 0)) six (Refused point_out) six
-    ∷ inserts T 1 (point (pos 1) (pos 1)) six (Refused (refusal_with 9 Nowhere)) six
+    ∷ inserts T 4 (point (pos 16001) (pos 0)) six (Err (refusal_with NoSuchCorner Nowhere)) six
+    ∷ inserts T 3 (point (pos 16001) (pos 0)) six (Err point_out) six
+    ∷ inserts T 1 (point (pos 1) (pos 1)) six (Err (refusal_with WrongLength Nowhere)) six
     -- the point equal to the corner after it, and to the last one; 6 would apply to both too
-    ∷ inserts T 1 (point (pos 4) (pos 0)) eight (Refused (refusal_with 5 (At 1))) eight
-    ∷ inserts T 0 (point (pos 0) (pos 4)) eight (Refused (refusal_with 5 (At 3))) eight
+    ∷ inserts T 1 (point (pos 4) (pos 0)) eight (Err (refusal_with Repeated (At 1))) eight
+    ∷ inserts T 0 (point (pos 0) (pos 4)) eight (Err (refusal_with Repeated (At 3))) eight
     -- the point on an edge, and in the piece
-    ∷ inserts T 1 (point (pos 2) (pos 0)) eight (Refused (not_left NoSide 0 2)) eight
-    ∷ inserts T 3 (point (pos 1) (pos 1)) eight (Refused (not_left NoSide 2 0)) eight
+    ∷ inserts T 1 (point (pos 2) (pos 0)) eight (Err (not_left None 0 2)) eight
+    ∷ inserts T 3 (point (pos 1) (pos 1)) eight (Err (not_left None 2 0)) eight
     -- the outline comes first, and is read strictly
-    ∷ inserts star 9 (point (pos 16001) (pos 0)) six (Refused (not_left NoSide 0 3)) six
-    ∷ inserts clockwise 1 (point (negsuc 0) (pos 2)) eight (Refused (not_left NoSide 0 2)) eight
+    ∷ inserts star 9 (point (pos 16001) (pos 0)) six (Err (not_left None 0 3)) six
+    ∷ inserts clockwise 1 (point (negsuc 0) (pos 2)) eight (Err (not_left None 0 2)) eight
     -- a convex hull, of the points in two orders
-    ∷ hulls cloud (sevens 14) (sevens 7) (HullAnswer.Made 4) (zeros_after S 6)
+    ∷ hulls cloud (sevens 14) (sevens 7) (Ok 4) (zeros_after S 6)
     (pos 2 ∷ pos 0 ∷ negsuc 1 ∷ pos 1 ∷ pos 3 ∷ negsuc 0 ∷ negsuc 1 ∷ [])
-    ∷ hulls cloud_back (sevens 14) (sevens 7) (HullAnswer.Made 4) (zeros_after S 6)
+    ∷ hulls cloud_back (sevens 14) (sevens 7) (Ok 4) (zeros_after S 6)
     (negsuc 1 ∷ pos 2 ∷ pos 3 ∷ pos 1 ∷ negsuc 1 ∷ pos 0 ∷ negsuc 0 ∷ [])
     -- of S and of T walked clockwise, and of outlines that reading refuses
-    ∷ hulls S (sevens 8) (sevens 4) (HullAnswer.Made 4) S (pos 0 ∷ pos 1 ∷ pos 2 ∷ pos 3 ∷ [])
-    ∷ hulls clockwise (sevens 6) (sevens 3) (HullAnswer.Made 3) T (pos 0 ∷ pos 2 ∷ pos 1 ∷ [])
-    ∷ hulls straight (sevens 8) (sevens 4) (HullAnswer.Made 3) (zeros_after straight_hull 2)
+    ∷ hulls S (sevens 8) (sevens 4) (Ok 4) S (pos 0 ∷ pos 1 ∷ pos 2 ∷ pos 3 ∷ [])
+    ∷ hulls clockwise (sevens 6) (sevens 3) (Ok 3) T (pos 0 ∷ pos 2 ∷ pos 1 ∷ [])
+    ∷ hulls straight (sevens 8) (sevens 4) (Ok 3) (zeros_after straight_hull 2)
     (pos 0 ∷ negsuc 1 ∷ pos 1 ∷ pos 2 ∷ [])
-    ∷ hulls star (sevens 10) (sevens 5) (HullAnswer.Made 5) star_hull (pos 3 ∷ pos 0 ∷ pos 2 ∷ pos 4 ∷ pos 1 ∷ [])
-    ∷ hulls twice (sevens 12) (sevens 6) (HullAnswer.Made 3) (zeros_after T 6)
+    ∷ hulls star (sevens 10) (sevens 5) (Ok 5) star_hull (pos 3 ∷ pos 0 ∷ pos 2 ∷ pos 4 ∷ pos 1 ∷ [])
+    ∷ hulls twice (sevens 12) (sevens 6) (Ok 3) (zeros_after T 6)
     (pos 0 ∷ pos 1 ∷ pos 2 ∷ negsuc 0 ∷ negsuc 0 ∷ negsuc 0 ∷ [])
     -- points in one line, one point, no points
-    ∷ hulls in_line (sevens 6) (sevens 3) (HullAnswer.Refused (refusal_with 2 Nowhere)) (sevens 6) (sevens 3)
-    ∷ hulls (pos 3 ∷ pos 3 ∷ []) (sevens 2) (sevens 1) (HullAnswer.Refused (refusal_with 2 Nowhere)) (sevens 2) (sevens 1)
-    ∷ hulls [] [] [] (HullAnswer.Refused (refusal_with 2 Nowhere)) [] []
+    ∷ hulls in_line (sevens 6) (sevens 3) (Err (refusal_with TooFew Nowhere)) (sevens 6) (sevens 3)
+    ∷ hulls (pos 3 ∷ pos 3 ∷ []) (sevens 2) (sevens 1) (Err (refusal_with TooFew Nowhere)) (sevens 2) (sevens 1)
+    ∷ hulls [] [] [] (Err (refusal_with TooFew Nowhere)) [] []
     -- a list of another length comes before that, for the corners and for the marks; a point out of range before both, and
     -- an odd length first
-    ∷ hulls [] (sevens 1) [] (HullAnswer.Refused (refusal_with 9 Nowhere)) (sevens 1) []
-    ∷ hulls in_line (sevens 6) (sevens 4) (HullAnswer.Refused (refusal_with 9 Nowhere)) (sevens 6) (sevens 4)
-    ∷ hulls (pos 0 ∷ pos 0 ∷ pos 1 ∷ pos 16001 ∷ []) [] [] (HullAnswer.Refused (refusal_with 4 (At 1))) [] []
-    ∷ hulls (pos 16001 ∷ []) [] [] (HullAnswer.Refused (refusal_with 1 Nowhere)) [] []
-    ∷ nears (point (pos 6) (pos 6)) wedge (NearestAnswer.Found edge_one)
-    ∷ nears (point (pos 12) (pos 9)) wedge (NearestAnswer.Found (corner_one 90))
+    ∷ hulls [] (sevens 1) [] (Err (refusal_with WrongLength Nowhere)) (sevens 1) []
+    ∷ hulls in_line (sevens 6) (sevens 4) (Err (refusal_with WrongLength Nowhere)) (sevens 6) (sevens 4)
+    ∷ hulls (pos 0 ∷ pos 0 ∷ pos 1 ∷ pos 16001 ∷ []) [] [] (Err (refusal_with OutOfRange (At 1))) [] []
+    ∷ hulls (pos 16001 ∷ []) [] [] (Err (refusal_with OddLength Nowhere)) [] []
+    ∷ nears (point (pos 6) (pos 6)) wedge (Ok edge_one)
+    ∷ nears (point (pos 12) (pos 9)) wedge (Ok (corner_one 90))
     -- the foot on edge 0 is its end; on the border; at a corner
-    ∷ nears (point (pos 9) (negsuc 4)) wedge (NearestAnswer.Found (corner_one 25))
-    ∷ nears (point (pos 6) (pos 1)) wedge (NearestAnswer.Found (within (pos 6) (pos 1)))
-    ∷ nears (point (pos 9) (pos 0)) wedge (NearestAnswer.Found (within (pos 9) (pos 0)))
-    ∷ nears (point (pos 0) (negsuc 16000)) wedge (NearestAnswer.Refused point_out)
-    ∷ nears (point (pos 0) (negsuc 16000)) straight (NearestAnswer.Refused (not_left NoSide 0 2))
-    ∷ nears (point (pos 0) (negsuc 16000)) clockwise (NearestAnswer.Refused point_out)
+    ∷ nears (point (pos 9) (negsuc 4)) wedge (Ok (corner_one 25))
+    ∷ nears (point (pos 6) (pos 1)) wedge (Ok (within (pos 6) (pos 1)))
+    ∷ nears (point (pos 9) (pos 0)) wedge (Ok (within (pos 9) (pos 0)))
+    ∷ nears (point (pos 0) (negsuc 16000)) wedge (Err point_out)
+    ∷ nears (point (pos 0) (negsuc 16000)) straight (Err (not_left None 0 2))
+    ∷ nears (point (pos 0) (negsuc 16000)) clockwise (Err point_out)
     -- the legs of T are the edges 0 and 2; clockwise the edges 2, its last, and 0. Its corner 1 is corner 2
-    ∷ nears (point (pos 2) (negsuc 2)) T (NearestAnswer.Found (on_leg 0 (pos 32) (pos 0)))
-    ∷ nears (point (pos 2) (negsuc 2)) clockwise (NearestAnswer.Found (on_leg 2 (pos 32) (pos 0)))
-    ∷ nears (point (negsuc 2) (pos 2)) clockwise (NearestAnswer.Found (on_leg 0 (pos 0) (pos 32)))
-    ∷ nears (point (pos 5) (negsuc 0)) T (NearestAnswer.Found (at_end 1))
-    ∷ nears (point (pos 5) (negsuc 0)) clockwise (NearestAnswer.Found (at_end 2))
-    ∷ nears (point (pos 1) (pos 1)) clockwise (NearestAnswer.Found (within (pos 1) (pos 1)))
+    ∷ nears (point (pos 2) (negsuc 2)) T (Ok (on_leg 0 (pos 32) (pos 0)))
+    ∷ nears (point (pos 2) (negsuc 2)) clockwise (Ok (on_leg 2 (pos 32) (pos 0)))
+    ∷ nears (point (negsuc 2) (pos 2)) clockwise (Ok (on_leg 0 (pos 0) (pos 32)))
+    ∷ nears (point (pos 5) (negsuc 0)) T (Ok (at_end 1))
+    ∷ nears (point (pos 5) (negsuc 0)) clockwise (Ok (at_end 2))
+    ∷ nears (point (pos 1) (pos 1)) clockwise (Ok (within (pos 1) (pos 1)))
     ∷ searches (point (pos 6) (pos 6)) wedge edge_one
     ∷ searches (point (pos 12) (pos 9)) wedge (corner_one 90)
     ∷ searches (point (pos 6) (pos 1)) wedge (within (pos 6) (pos 1))
@@ -548,21 +546,21 @@ cases =
     -- no side shows a corner; then A alone; then B alone, with the outlines exchanged; then both
     ∷ compares S T 0 (spent 0 0 0 None None None)
     ∷ compares S T 3 (spent 3 2 1 None None None)
-    ∷ compares S T 4 (spent 4 2 2 (Worst (from_s A)) (Worst (from_s A)) None)
-    ∷ compares S T 6 (spent 6 0 2 (Worst (from_s A)) (Worst (from_s A)) None)
-    ∷ compares T S 4 (spent 4 2 2 (Worst (from_s B)) None (Worst (from_s B)))
+    ∷ compares S T 4 (spent 4 2 2 (Some (from_s A)) (Some (from_s A)) None)
+    ∷ compares S T 6 (spent 6 0 2 (Some (from_s A)) (Some (from_s A)) None)
+    ∷ compares T S 4 (spent 4 2 2 (Some (from_s B)) None (Some (from_s B)))
     ∷ compares T S 7 (done 7 (from_s B) 3 (zeroth A (pos 0) (pos 0)) (from_s B))
     -- T walked clockwise, both ways round: support corners have their numbers as given
     ∷ compares S clockwise 3 (spent 3 2 2 None None None)
-    ∷ compares S clockwise 4 (spent 4 2 1 (Worst (from_s A)) (Worst (from_s A)) None)
+    ∷ compares S clockwise 4 (spent 4 2 1 (Some (from_s A)) (Some (from_s A)) None)
     ∷ compares S clockwise 512 (done 7 (from_s A) 3 (from_s A) (zeroth B (pos 0) (pos 0)))
-    ∷ compares clockwise S 4 (spent 4 1 2 (Worst (from_s B)) None (Worst (from_s B)))
+    ∷ compares clockwise S 4 (spent 4 1 2 (Some (from_s B)) None (Some (from_s B)))
     ∷ compares clockwise S 7 (done 7 (from_s B) 3 (zeroth A (pos 0) (pos 0)) (from_s B))
-    ∷ compares downward clockwise 2 (spent 2 2 2 (Worst downward_a1) (Worst downward_a1) None)
+    ∷ compares downward clockwise 2 (spent 2 2 2 (Some downward_a1) (Some downward_a1) None)
     ∷ compares downward clockwise 6 (done 6 clockwise_b1 4 downward_a1 clockwise_b1)
-    ∷ compares S moved 1 (spent 1 1 0 (Worst moved_a0) (Worst moved_a0) (Worst moved_b0))
+    ∷ compares S moved 1 (spent 1 1 0 (Some moved_a0) (Some moved_a0) (Some moved_b0))
     -- of equal gaps of A and B, A's
-    ∷ compares S moved 3 (spent 3 2 1 (Worst moved_a0) (Worst moved_a0) (Worst moved_b1))
+    ∷ compares S moved 3 (spent 3 2 1 (Some moved_a0) (Some moved_a0) (Some moved_b1))
     ∷ compares S moved 8 (done 8 moved_a0 10 moved_a0 moved_b1)
     ∷ compares S S 8 (done 8 (zeroth A (pos 0) (pos 0)) 0 (zeroth A (pos 0) (pos 0)) (zeroth B (pos 0) (pos 0)))
     ∷ compares S turned 8 (done 8 (zeroth A (pos 0) (pos 0)) 0 (zeroth A (pos 0) (pos 0)) (zeroth B (pos 4) (pos 4)))
@@ -572,25 +570,25 @@ cases =
     ∷ compares S3 T3 7 (done 7 (from_s3 A) 3 (from_s3 A) (zeroth B (pos 0) (pos 0)))
     ∷ compares upward downward 6 (done 6 upward_a2 4 upward_a2 (corner B 1 (Feature.Edge 0) 144 (pos 32) (pos 0) 16))
     -- of equal gaps of a side corner 2 takes the place of corner 3, which was found before
-    ∷ compares square square_moved 5 (spent 5 2 1 (Worst square_a3) (Worst square_a3) (Worst square_b0))
-    ∷ compares square square_moved 6 (spent 6 2 2 (Worst square_a2) (Worst square_a2) (Worst square_b0))
+    ∷ compares square square_moved 5 (spent 5 2 1 (Some square_a3) (Some square_a3) (Some square_b0))
+    ∷ compares square square_moved 6 (spent 6 2 2 (Some square_a2) (Some square_a2) (Some square_b0))
     -- clockwise that corner has the number 1 and is found before corner 2, which does not take its place
-    ∷ compares square_back square_moved 5 (spent 5 2 1 (Worst square_back_a1) (Worst square_back_a1) (Worst square_b0))
-    ∷ compares square_back square_moved 6 (spent 6 2 2 (Worst square_back_a1) (Worst square_back_a1) (Worst square_b0))
+    ∷ compares square_back square_moved 5 (spent 5 2 1 (Some square_back_a1) (Some square_back_a1) (Some square_b0))
+    ∷ compares square_back square_moved 6 (spent 6 2 2 (Some square_back_a1) (Some square_back_a1) (Some square_b0))
     ∷ compares square_back square_moved 8 (done 8 square_back_a1 10 square_back_a1 square_b0)
     -- a list and its reversal: the same gap as a value, at another corner
     ∷ compares kite T 7 (done 7 kite_a1 3 kite_a1 (zeroth B (pos 0) (pos 0)))
     ∷ compares kite_back T 7 (done 7 kite_back_a0 3 kite_back_a0 (zeroth B (pos 0) (pos 0)))
     -- the nearest point is a neighbour of the support corner
-    ∷ compares thin wide 2 (spent 2 0 0 (Worst thin_a0) (Worst thin_a0) None)
+    ∷ compares thin wide 2 (spent 2 0 0 (Some thin_a0) (Some thin_a0) None)
     -- the greater gap is B's
     ∷ compares thin wide 6 (done 6 wide_b1 3 thin_a0 wide_b1)
     -- 9/1 of A and 324/36 of B are equal
     ∷ compares flat tall 6 (done 6 flat_a0 3 flat_a0 tall_b1)
     -- refused: A's list, B's, and both, where A's refusal stands
-    ∷ compares star T 0 (Comparison.Refused (not_left (Of A) 0 3))
-    ∷ compares S straight_back 0 (Comparison.Refused (not_left (Of B) 0 2))
-    ∷ compares straight star 512 (Comparison.Refused (not_left (Of A) 0 2))
+    ∷ compares star T 0 (Err (not_left (Some A) 0 3))
+    ∷ compares S straight_back 0 (Err (not_left (Some B) 0 2))
+    ∷ compares straight star 512 (Err (not_left (Some A) 0 2))
     ∷ exhausts S T (from_s A) (zeroth B (pos 0) (pos 0)) (from_s A)
     ∷ exhausts S moved moved_a0 moved_b1 moved_a0
     ∷ exhausts low high (far A (pos 31999)) (far B (negsuc 31998)) (far A (pos 31999))
@@ -598,44 +596,44 @@ cases =
     ∷ exhausts thin wide thin_a0 wide_b1 wide_b1
     ∷ exhausts square_back square_moved square_back_a1 square_b0 square_back_a1
     ∷ exhausts downward clockwise downward_a1 clockwise_b1 clockwise_b1
-    ∷ sums S T (MismatchAnswer.Summed 8192)
-    ∷ sums T S (MismatchAnswer.Summed 8192)
-    ∷ sums S clockwise (MismatchAnswer.Summed 8192)
-    ∷ sums S moved (MismatchAnswer.Summed 557056)
-    ∷ sums S S (MismatchAnswer.Summed 0)
-    ∷ sums low high (MismatchAnswer.Summed 12582256649216)
+    ∷ sums S T (Ok 8192)
+    ∷ sums T S (Ok 8192)
+    ∷ sums S clockwise (Ok 8192)
+    ∷ sums S moved (Ok 557056)
+    ∷ sums S S (Ok 0)
+    ∷ sums low high (Ok 12582256649216)
     -- gaps that are no whole numbers of units; of the second pair the exact sum is 16,046 units and more
-    ∷ sums thin wide (MismatchAnswer.Summed 13516)
-    ∷ sums S needle (MismatchAnswer.Summed 16045)
-    ∷ sums kite T (MismatchAnswer.Summed 16384)
-    ∷ sums kite_back T (MismatchAnswer.Summed 16384)
+    ∷ sums thin wide (Ok 13516)
+    ∷ sums S needle (Ok 16045)
+    ∷ sums kite T (Ok 16384)
+    ∷ sums kite_back T (Ok 16384)
     -- a gap just below one unit, and one just above
-    ∷ sums long_bent long (MismatchAnswer.Summed 0)
-    ∷ sums short short_bent (MismatchAnswer.Summed 1)
-    ∷ sums star T (MismatchAnswer.Refused (not_left (Of A) 0 3))
-    ∷ sums S straight_back (MismatchAnswer.Refused (not_left (Of B) 0 2))
-    ∷ sums straight star (MismatchAnswer.Refused (not_left (Of A) 0 2))
+    ∷ sums long_bent long (Ok 0)
+    ∷ sums short short_bent (Ok 1)
+    ∷ sums star T (Err (not_left (Some A) 0 3))
+    ∷ sums S straight_back (Err (not_left (Some B) 0 2))
+    ∷ sums straight star (Err (not_left (Some A) 0 2))
     -- S and T from a store, both ways round, and S with itself
     ∷ compares_chains store (pos 2) (pos 3) 3 (spent 3 2 1 None None None)
     ∷ compares_chains store (pos 2) (pos 3) 7 (done 7 (from_s A) 3 (from_s A) (zeroth B (pos 0) (pos 0)))
     ∷ compares_chains store (pos 3) (pos 2) 7 (done 7 (from_s B) 3 (zeroth A (pos 0) (pos 0)) (from_s B))
     ∷ compares_chains store (pos 2) (pos 2) 8 (done 8 (zeroth A (pos 0) (pos 0)) 0 (zeroth A (pos 0) (pos 0)) (zeroth B (pos 0) (pos 0)))
     -- a start of zero: no corners
-    ∷ compares_chains store (pos 0) (pos 0) 7 (Comparison.Refused (refusal_of A 2))
-    ∷ compares_chains store (pos 2) (pos 0) 7 (Comparison.Refused (refusal_of B 2))
+    ∷ compares_chains store (pos 0) (pos 0) 7 (Err (refusal_of A TooFew))
+    ∷ compares_chains store (pos 2) (pos 0) 7 (Err (refusal_of B TooFew))
     -- a cycle
-    ∷ compares_chains store (pos 7) (pos 3) 7 (Comparison.Refused (refusal_at A 11 256))
-    ∷ compares_chains store (pos 2) (pos 7) 7 (Comparison.Refused (refusal_at B 11 256))
+    ∷ compares_chains store (pos 7) (pos 3) 7 (Err (refusal_at A ChainTooLong 256))
+    ∷ compares_chains store (pos 2) (pos 7) 7 (Err (refusal_at B ChainTooLong 256))
     -- indexes that name no record: after a corner, the record count, a negative one
-    ∷ compares_chains store (pos 8) (pos 7) 7 (Comparison.Refused (refusal_at A 12 1))
-    ∷ compares_chains store (pos 2) (pos 9) 7 (Comparison.Refused (refusal_at B 12 0))
-    ∷ compares_chains store (negsuc 0) (pos 3) 7 (Comparison.Refused (refusal_at A 12 0))
+    ∷ compares_chains store (pos 8) (pos 7) 7 (Err (refusal_at A NoSuchRecord 1))
+    ∷ compares_chains store (pos 2) (pos 9) 7 (Err (refusal_at B NoSuchRecord 0))
+    ∷ compares_chains store (negsuc 0) (pos 3) 7 (Err (refusal_at A NoSuchRecord 0))
     -- A's chain is too short, and B's has a bad index: A's refusal stands
-    ∷ compares_chains store (pos 5) (pos 9) 7 (Comparison.Refused (refusal_of A 2))
+    ∷ compares_chains store (pos 5) (pos 9) 7 (Err (refusal_of A TooFew))
     -- the length is no multiple of three, whatever else applies
-    ∷ compares_chains (pos 0 ∷ store) (pos 2) (pos 3) 7 (Comparison.Refused (refusal_of A 10))
-    ∷ compares_chains (pos 0 ∷ pos 0 ∷ []) (pos 0) (pos 9) 7 (Comparison.Refused (refusal_of A 10))
+    ∷ compares_chains (pos 0 ∷ store) (pos 2) (pos 3) 7 (Err (refusal_of A PartialRecord))
+    ∷ compares_chains (pos 0 ∷ pos 0 ∷ []) (pos 0) (pos 9) 7 (Err (refusal_of A PartialRecord))
     -- an empty store
-    ∷ compares_chains [] (pos 0) (pos 1) 7 (Comparison.Refused (refusal_of A 2))
-    ∷ compares_chains [] (pos 1) (pos 0) 7 (Comparison.Refused (refusal_at A 12 0))
+    ∷ compares_chains [] (pos 0) (pos 1) 7 (Err (refusal_of A TooFew))
+    ∷ compares_chains [] (pos 1) (pos 0) 7 (Err (refusal_at A NoSuchRecord 0))
     ∷ []

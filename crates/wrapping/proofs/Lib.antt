@@ -1,4 +1,4 @@
 -- Laws for the code of wrapping.
-pub mod FillingLaws
 pub mod KeepingLaws
+pub mod PlacesLaws
 pub mod WrapLaws

@@ -1,2 +1,3 @@
 -- What the functions of wrapping promise. For code and proofs alone.
+pub mod First
 pub mod Steps

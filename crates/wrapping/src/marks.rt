@@ -17,14 +17,7 @@ fn is_repeat(s: &[i32], i: usize) -> bool
     ensures { result ≡ is_repeat (corners s.now) i }
 {
     let v = corner(s, i);
-    let mut j = 0;
-    while j < i {
-        if plane::same(corner(s, j), v) {
-            return true;
-        }
-        j += 1;
-    }
-    false
+    (0..i).any(|j| corner(s, j) == v)
 }
 
 // The number of the corner of a hull that v is, or the mark for none.
@@ -32,15 +25,10 @@ fn corner_number(hull: &[i32], v: Corner) -> i32
     requires { length (corners hull.now) ≤ most }
     ensures { result ≡ number_from 0 (corners hull.now) v }
 {
-    let n = count(hull);
-    let mut k = 0;
-    while k < n {
-        if plane::same(corner(hull, k), v) {
-            return k as i32;
-        }
-        k += 1;
+    match (0..count(hull)).find(|&k| corner(hull, k) == v) {
+        Some(k) => k as i32,
+        None => NO_CORNER,
     }
-    NO_CORNER
 }
 
 // The mark of point i: -1 if it repeats an earlier point, else its corner number, else -2.
@@ -61,9 +49,7 @@ pub fn write_marks(s: &[i32], hull: &[i32], out: &mut [i32])
     requires hull_len_bound { length (corners hull.now) ≤ most }
     ensures { out.new ≡ marks (corners s.now) (corners hull.now) }
 {
-    let mut i = 0;
-    while i < out.len() {
-        out[i] = mark(s, hull, i);
-        i += 1;
+    for (i, place) in out.iter_mut().enumerate() {
+        *place = mark(s, hull, i);
     }
 }

@@ -1,5 +1,5 @@
 // Points of a list: the lowest, those that can still be corners of a hull, and the first of these.
-ghost use Rattle.std.specs.Prelude.{◌≡◌, ◌≤◌, ◌<◌, pos, length, get_or, drop};
+ghost use Rattle.std.specs.Prelude.{◌≡◌, ◌≤◌, ◌<◌, length, drop};
 ghost use Rattle.std.specs.Int.Signed.{lt_z};
 ghost use Rattle.plane.specs.Range.{InRange};
 ghost use Rattle.plane.specs.Vector.{dot};
@@ -8,28 +8,36 @@ ghost use Rattle.outline.specs.Convex.{AllInRange};
 ghost use Rattle.outline.specs.Corners.{corners, corner};
 ghost use Rattle.hull.specs.Call.{filled_up};
 ghost use Rattle.hull.specs.code.Wrapping.{lowest, is_candidate, is_ahead, foremost};
+ghost use Rattle.wrapping.specs.First.{Comparable, IsFirst};
 ghost use Rattle.wrapping.specs.Steps.{KeepsCandidates};
 
 use plane::{Corner, Vector};
 use reading::corners::{corner, count, put_corner};
-
-// The number at a place of a list, and 0 past its end.
-fn number_at(s: &[i32], i: usize) -> i32
-    ensures { result ≡ get_or s.now i (pos 0) }
-{
-    if i < s.len() { s[i] } else { 0 }
-}
 
 // Copies a list to one that is at least as long, and writes zeros after it.
 pub fn fill(from: &[i32], to: &mut [i32])
     requires { length from.now ≤ length to.old }
     ensures { to.new ≡ filled_up (length to.old) from.now }
 {
-    let mut i = 0;
-    while i < to.len() {
-        to[i] = number_at(from, i);
-        i += 1;
+    let n = from.len();
+    to[..n].copy_from_slice(from);
+    to[n..].fill(0);
+}
+
+// The first of some points, by a test of which of two comes before the other.
+fn first_by<F: Fn(Corner, Corner) -> bool>(zs: &[i32], comes_before: F) -> Corner
+    requires nonzero { 0 < length (corners zs.now) }
+    requires comparable { Comparable (F.pre comes_before) (corners zs.now) }
+    ensures { IsFirst (F.post comes_before) (corners zs.now) result }
+{
+    let mut found = corner(zs, 0);
+    for i in 1..count(zs) {
+        let next = corner(zs, i);
+        if comes_before(next, found) {
+            found = next;
+        }
     }
+    found
 }
 
 // The lowest point, of several the leftmost.
@@ -37,17 +45,7 @@ pub fn lowest(s: &[i32]) -> Corner
     requires { 0 < length (corners s.now) }
     ensures { result ≡ lowest (corner (corners s.now) 0) (drop 1 (corners s.now)) }
 {
-    let n = count(s);
-    let mut found = corner(s, 0);
-    let mut i = 1;
-    while i < n {
-        let next = corner(s, i);
-        if plane::is_lower(next, found) {
-            found = next;
-        }
-        i += 1;
-    }
-    found
+    first_by(s, plane::is_lower)
 }
 
 // Whether z can come after the corner p of a hull that starts at s: from s every other point, from a later corner one
@@ -58,8 +56,8 @@ fn is_candidate(s: Corner, p: Corner, z: Corner) -> bool
     requires in_range_3 { InRange z }
     ensures { result ≡ is_candidate s p z }
 {
-    if plane::same(s, p) {
-        return !plane::same(s, z);
+    if s == p {
+        return s != z;
     }
     plane::is_left(s, plane::difference(s, p), z)
 }
@@ -73,14 +71,12 @@ pub fn keep_candidates(zs: &mut [i32], s: Corner, p: Corner) -> usize
 {
     let n = count(&zs[..]);
     let mut left = 0;
-    let mut i = 0;
-    while i < n {
+    for i in 0..n {
         let z = corner(&zs[..], i);
         put_corner(zs, left, z);
         if is_candidate(s, p, z) {
             left += 1;
         }
-        i += 1;
     }
     left
 }
@@ -118,15 +114,5 @@ pub fn foremost(p: Corner, zs: &[i32]) -> Corner
     requires in_range { InRange p }
     ensures { result ≡ foremost p (corner (corners zs.now) 0) (drop 1 (corners zs.now)) }
 {
-    let n = count(zs);
-    let mut found = corner(zs, 0);
-    let mut i = 1;
-    while i < n {
-        let next = corner(zs, i);
-        if is_ahead(p, next, found) {
-            found = next;
-        }
-        i += 1;
-    }
-    found
+    first_by(zs, |z, q| is_ahead(p, z, q))
 }

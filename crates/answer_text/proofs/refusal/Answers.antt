@@ -8,5 +8,5 @@ unfolding refusal_text
 returns c =
     let letter = joined _ _ _ c.bytes.ensures c.refused_side-t.ensures in
     let space = joined _ _ _ letter c.bytes-2.ensures in
-    let number = joined _ _ _ space c.natural-t.ensures in
-    joined _ _ _ number c.place.ensures
+    let figure = joined _ _ _ space (rw c.from.ensures at c.natural-t.ensures) in
+    joined _ _ _ figure c.place.ensures

@@ -1,23 +1,18 @@
 -- `calls::compare` goes by what the checks of the lists find, and then by the report of the steps.
-use mathlib.Core.Path.{sym, ◌∙◌}
-use Rattle.hausdorff.proofs.CallLaws.{pair-taken, call-refused, call-reported, call-promises}
+use mathlib.Core.Path.{refl, sym}
+use Rattle.std.proofs.lemmas.Result.{err_from_is_err_and}
+use Rattle.hausdorff.proofs.CallLaws.{call-refused, call-reported, call-promises}
 use Rattle.calls.proofs.compare.Goals as goal
 
-pub compare-report-requires : goal.compare-report-requires
-compare-report-requires c =
-    let (ok-a, ok-b) = (pair-taken _ _ _ _).0 (sym c.check_pair.ensures ∙ c.in-Taken.is) in
-    record { accepted_as = ok-a; accepted_as_2 = ok-b }
+pub returns-in_err-outlines : goal.returns-in_err-outlines
+returns-in_err-outlines c =
+    let p = err_from_is_err_and c.from_residual.result c.from_residual.ensures.1 in
+    let refuses = rw c.in_err-outlines.was at c.accept_pair.ensures in
+    let promised = call-promises _ _ _ (call-refused _ _ _ (sym refuses) refl) in
+    rw (p.1, p.2) (record { answer = promised.0; rules = promised.1 })
 
-pub returns-in-Refused : goal.returns-in-Refused
-returns-in-Refused c =
-    let promised =
-    call-promises _ _ _
-    (call-refused _ _ _ c.check_pair.ensures c.in-Refused.is) in
-    record { answer = promised.0; rules = promised.1 }
-
-pub returns-in-Taken : goal.returns-in-Taken
-returns-in-Taken c =
-    let promised =
-    call-promises _ _ _
-    (call-reported _ _ _ c.check_pair.ensures c.in-Taken.is c.compare-report.ensures) in
+pub returns : goal.returns
+returns c =
+    let (is-a, is_b, takes) = (rw c.in_ok-outlines.was at c.accept_pair.ensures) in
+    let promised = call-promises _ _ _ (call-reported _ _ _ (sym takes) refl (rw (is-a, is_b) at c.compare.ensures)) in
     record { answer = promised.0; rules = promised.1 }

@@ -6,6 +6,7 @@ use Prim.Native.Nat.{ℕ, ◌*◌, ◌≤◌}
 use lib.IntN.{ℤ}
 use lib.ListN.{length, take}
 use lib.Seq.{length-take-le}
+use Rattle.std.proofs.lemmas.Result.{err_from_is_err_and}
 use Rattle.plane.specs.Vector.{coordinates}
 use Rattle.outline.specs.Corners.{corners, most}
 use Rattle.outline.proofs.CornersLaws.{corners-fit}
@@ -35,33 +36,34 @@ module _ (s : List ℤ) {room places : ℕ} (may : PermittedPoints s room places
   marked : {ms : List ℤ} → ms ≡ marks (corners s) (corners (take (2 * r) l)) → ms ≡ marks (corners s) (convex_hull (corners s))
   marked is = rw (wraps-corners wraps) at is
 
-pub returns-in-Refused : goal.returns-in-Refused
-returns-in-Refused c =
+pub returns-in_err-check_points : goal.returns-in_err-check_points
+returns-in_err-check_points c =
+    let p = err_from_is_err_and c.from_residual.result c.from_residual.ensures.1 in
     let promised =
-    refused-promises _ _ _ (points-refused _ _ _ c.check_points.ensures c.in-Refused.is) in
-    record { answer = promised.0; list = promised.1.0; marked = promised.1.1.0; rules = promised.1.1.1 }
+    refused-promises _ _ _ (points-refused _ _ _ c.check_points.ensures c.in_err-check_points.was) in
+    rw (p.1, p.2) (record { answer = promised.0; list = promised.1.0; marked = promised.1.1.0; rules = promised.1.1.1 })
 
 pub convex_hull-count-requires : goal.convex_hull-count-requires
 convex_hull-count-requires c =
     let may = points-permit _ _ _ c.check_points.ensures
-    c.in_default.is in
+    c.in_ok-check_points.was in
     record { s_len = may.even; s_len_bound = may.at_most; all_in_range = may.all_in_range; hull_len = sym c.no_numbers-hull.ensures }
 
 pub returns-then-count-lt-FEWEST : goal.returns-then-count-lt-FEWEST
 returns-then-count-lt-FEWEST c =
     let promised =
     refused-promises _ _ _ (points-short _ _ _ c.check_points.ensures
-    c.in_default.is c.convex_hull-count.ensures.count c.if-count-lt-FEWEST.true) in
-    record { answer = promised.0; list = promised.1.0; marked = promised.1.1.0; rules = promised.1.1.1 }
+    c.in_ok-check_points.was c.convex_hull-count.ensures.count c.if-count-lt-FEWEST.true) in
+    rw c.refuse.ensures (record { answer = promised.0; list = promised.1.0; marked = promised.1.1.0; rules = promised.1.1.1 })
 
 pub overflow_mul-hull : goal.overflow_mul-hull
 overflow_mul-hull c =
-    let may = points-permit _ _ _ c.check_points.ensures c.in_default.is in
+    let may = points-permit _ _ _ c.check_points.ensures c.in_ok-check_points.was in
     omega (arith, c.convex_hull-count.ensures.count, hull-length (corners c.args.s.now), may.at_most)
 
 pub overflow_mul-hull-2 : goal.overflow_mul-hull-2
 overflow_mul-hull-2 c =
-    let may = points-permit _ _ _ c.check_points.ensures c.in_default.is in
+    let may = points-permit _ _ _ c.check_points.ensures c.in_ok-check_points.was in
     omega (arith, c.convex_hull-count.ensures.count, hull-length (corners c.args.s.now), may.at_most)
 
 pub slice_bounds-hull-end : goal.slice_bounds-hull-end
@@ -72,7 +74,7 @@ slice_bounds-fill-end c = sym (length-take-le _ _ (wraps-fits c.convex_hull-coun
 
 pub fill-requires : goal.fill-requires
 fill-requires c =
-    part-fits _ (points-permit _ _ _ c.check_points.ensures c.in_default.is) c.convex_hull-count.ensures
+    part-fits _ (points-permit _ _ _ c.check_points.ensures c.in_ok-check_points.was) c.convex_hull-count.ensures
 
 pub slice_bounds-hull-end-2 : goal.slice_bounds-hull-end-2
 slice_bounds-hull-end-2 c = wraps-fits c.convex_hull-count.ensures
@@ -82,15 +84,15 @@ slice_bounds-write_marks-end c = sym (length-take-le _ _ (wraps-fits c.convex_hu
 
 pub write_marks-requires : goal.write_marks-requires
 write_marks-requires c =
-    let may = points-permit _ _ _ c.check_points.ensures c.in_default.is in
+    let may = points-permit _ _ _ c.check_points.ensures c.in_ok-check_points.was in
     record { out_len = may.marks_long; hull_len_bound = few _ may c.convex_hull-count.ensures }
 
 pub returns : goal.returns
 returns c =
-    let may = points-permit _ _ _ c.check_points.ensures c.in_default.is in
+    let may = points-permit _ _ _ c.check_points.ensures c.in_ok-check_points.was in
     let promised =
     made-promises _ _ _ (points-made _ _ _ c.check_points.ensures
-    c.in_default.is c.convex_hull-count.ensures.count
+    c.in_ok-check_points.was c.convex_hull-count.ensures.count
     c.if-count-lt-FEWEST.false)
     c.convex_hull-count.ensures.count (written _ may c.convex_hull-count.ensures c.fill.ensures)
     (marked _ may c.convex_hull-count.ensures c.write_marks.ensures) in

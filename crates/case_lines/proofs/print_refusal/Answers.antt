@@ -3,6 +3,4 @@ use Rattle.answer_text.proofs.AppendedLaws.{empty-text, longer-text}
 use Rattle.case_lines.proofs.print_refusal.Goals as goal
 
 pub write-requires : goal.write-requires
-write-requires g c =
-    let empty = empty-text c.empty.ensures in
-    longer-text _ _ c.refusal.ensures (longer-text _ _ c.bytes.ensures empty)
+write-requires g c = search (longer-text, empty-text)

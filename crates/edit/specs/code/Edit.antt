@@ -3,8 +3,7 @@ use Rattle.std.specs.Prelude.{ℕ, not, List, eqb, length}
 use Rattle.plane.specs.declared.Corner.{Corner}
 use Rattle.plane.specs.Vector.{coordinates}
 use Rattle.outline.specs.declared.Place.TheVariants.{Nowhere}
-use Rattle.outline.specs.declared.Verdict.{Verdict}
-use Rattle.outline.specs.code.Checks.{refuse_if}
+use Rattle.outline.specs.code.Checks.{Verdict, refuse_if}
 use Rattle.outline.specs.Refusal.{refusal}
 use Rattle.edit.specs.Edit.{wrong_length}
 

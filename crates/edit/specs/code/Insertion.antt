@@ -1,11 +1,9 @@
 -- Inserting a corner, computed: `proofs/Insertion.antt` shows that the checks decide the conditions.
-use Rattle.std.specs.Prelude.{ℕ, List, [], ◌∷◌, ◌++◌, ltb, eqb, ℤ, length}
+use Rattle.std.specs.Prelude.{ℕ, List, [], ◌∷◌, ◌++◌, ltb, eqb, ℤ, length, None}
 use Rattle.plane.specs.declared.Corner.{Corner}
 use Rattle.plane.specs.Vector.{coordinates}
 use Rattle.outline.specs.declared.Place.TheVariants.{Nowhere}
-use Rattle.outline.specs.declared.RefusedSide.TheVariants.{NoSide}
-use Rattle.outline.specs.declared.Verdict.{Verdict}
-use Rattle.outline.specs.code.Checks.{refuse_if, first, if_taken}
+use Rattle.outline.specs.code.Checks.{Verdict, refuse_if, first, if_taken}
 use Rattle.outline.specs.code.Reading.{check_point, check_repeated, check_convex, checks}
 use Rattle.outline.specs.Corners.{corners, most}
 use Rattle.outline.specs.Refusal.{refusal}
@@ -27,7 +25,7 @@ check_placing cs k v room = first (placing_checks cs k v room)
 
 -- 5 and 6 of the result
 abbrev pub result_checks : List Corner → List Verdict
-result_checks result = check_repeated NoSide result ∷ check_convex NoSide result ∷ []
+result_checks result = check_repeated None result ∷ check_convex None result ∷ []
 
 -- what the first of them that refuses answers
 unfoldable pub check_result : List Corner → Verdict
@@ -36,7 +34,7 @@ check_result result = first (result_checks result)
 -- all checks, in the order of the conditions
 abbrev pub insertion_checks : List ℤ → ℕ → Corner → ℕ → List Verdict
 insertion_checks s k v room =
-    checks NoSide s ++ (placing_checks (corners s) k v room ++ result_checks (inserted k v (corners s)))
+    checks None s ++ (placing_checks (corners s) k v room ++ result_checks (inserted k v (corners s)))
 
 -- what the first that refuses answers
 unfoldable pub check_insertion : List ℤ → ℕ → Corner → ℕ → Verdict

@@ -1,11 +1,9 @@
 -- Removing a corner, computed: `proofs/Removal.antt` shows that the checks decide the conditions.
-use Rattle.std.specs.Prelude.{ℕ, List, [], ◌∷◌, ◌++◌, leb, eqb, ℤ, length}
+use Rattle.std.specs.Prelude.{ℕ, List, [], ◌∷◌, ◌++◌, leb, eqb, ℤ, length, None}
 use Rattle.plane.specs.declared.Corner.{Corner}
 use Rattle.plane.specs.Vector.{coordinates}
 use Rattle.outline.specs.declared.Place.TheVariants.{Nowhere}
-use Rattle.outline.specs.declared.RefusedSide.TheVariants.{NoSide}
-use Rattle.outline.specs.declared.Verdict.{Verdict}
-use Rattle.outline.specs.code.Checks.{refuse_if, first, if_taken}
+use Rattle.outline.specs.code.Checks.{Verdict, refuse_if, first, if_taken}
 use Rattle.outline.specs.code.Reading.{checks}
 use Rattle.outline.specs.Corners.{corners}
 use Rattle.outline.specs.Refusal.{refusal}
@@ -22,7 +20,7 @@ own_checks cs k room =
 
 -- all checks, in the order of the conditions
 abbrev pub removal_checks : List ℤ → ℕ → ℕ → List Verdict
-removal_checks s k room = checks NoSide s ++ own_checks (corners s) k room
+removal_checks s k room = checks None s ++ own_checks (corners s) k room
 
 -- what the first that refuses answers
 unfoldable pub check_removal : List ℤ → ℕ → ℕ → Verdict

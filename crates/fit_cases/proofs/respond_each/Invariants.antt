@@ -1,7 +1,6 @@
--- `fit_cases::respond_each` is safe and ends: each case ends after its start.
-use Prim.Native.Nat.{◌-◌}
-use lib.ListN.{length}
+-- `fit_cases::respond_each` ends: each turn leaves fewer bytes.
+use Rattle.std.proofs.Common.{length}
 use Rattle.fit_cases.proofs.respond_each.Given as goal
 
-abbrev pub decreases-loop-from : goal.decreases-loop-from
-decreases-loop-from g l = length l.s - l.from
+abbrev pub decreases-loop-rest : goal.decreases-loop-rest
+decreases-loop-rest g l = length l.rest

@@ -5,14 +5,16 @@ use mathlib.Core.List.{List}
 use mathlib.Core.Path.{◌≡◌, sym, ◌∙◌}
 use Prim.Native.Nat.{ℕ, ◌≤◌, ◌<◌}
 use lib.ListN.{length}
+use Rattle.std.specs.Prelude.{Result}
+use Rattle.outline.specs.declared.Refusal.{Refusal}
+use Rattle.hausdorff.specs.declared.Report.{Report}
 use Rattle.text.specs.declared.output.Text.{Text}
 use Rattle.text.specs.Ascii.{ascii}
 use Rattle.text.specs.Output.{room, text_of}
 use Rattle.text.specs.code.Output.{appended}
 use Rattle.text.proofs.OutputLaws.{text_of-appended}
-use Rattle.hausdorff.specs.declared.Comparison.{Comparison}
 use Rattle.fit_lines.specs.Lines.{comparison_text}
-use Rattle.fit_text.specs.declared.parsing.Outcome.TheVariants.{Compared, Unreadable}
+use Rattle.std.specs.Prelude.{Some, None}
 use Rattle.fit_text.specs.Input.{outcome}
 use Rattle.fit_text.specs.Response.{most_bytes, judged, response}
 use Rattle.fit_text.proofs.ResponseLaws.{response-fits}
@@ -22,16 +24,16 @@ module _ (s : List ℕ) where
   abbrev Right : Text → Type 0
   Right r = record { bytes : r ≡ text_of (response s); whole : length (response s) ≤ room }
 
-  too_long : most_bytes < length s → judged s ≡ Unreadable
+  too_long : most_bytes < length s → judged s ≡ None
   too_long long = rw (lt-ltb most_bytes (length s) long)
 
   short-enough : length s ≤ most_bytes → judged s ≡ outcome s
   short-enough short = rw (le-ltb most_bytes (length s) short)
 
-  unread : {r : Text} → r ≡ text_of (ascii "unreadable\n") → judged s ≡ Unreadable → Right r
+  unread : {r : Text} → r ≡ text_of (ascii "unreadable\n") → judged s ≡ None → Right r
   unread is judgement = record { bytes = rw judgement is; whole = response-fits s }
 
-  compared : {t r : Text} {c : Comparison} → t ≡ text_of [] → r ≡ appended t (comparison_text c) → judged s ≡ Compared c
+  compared : {t r : Text} {c : Result Report Refusal} → t ≡ text_of [] → r ≡ appended t (comparison_text c) → judged s ≡ Some c
       → Right r
   compared {c} empty is judgement =
       let fits : length (comparison_text c) ≤ room = rw judgement at (response-fits s) in
@@ -42,13 +44,13 @@ returns-then-input-gt-MOST_BYTES c =
     let s = c.args.input.now in
     unread s c.unreadable.ensures (too_long s c.if-input-gt-MOST_BYTES.true)
 
-pub returns-in-Compared : goal.returns-in-Compared
-returns-in-Compared c =
+pub returns-in-Some : goal.returns-in-Some
+returns-in-Some c =
     let s = c.args.input.now in
     compared s c.empty.ensures c.comparison.ensures
-    (short-enough s c.if-input-gt-MOST_BYTES.false ∙ sym c.read.ensures ∙ c.in-Compared.is)
+    (short-enough s c.if-input-gt-MOST_BYTES.false ∙ sym c.read.ensures ∙ c.in-Some.is)
 
-pub returns-in-Unreadable : goal.returns-in-Unreadable
-returns-in-Unreadable c =
+pub returns-in-None : goal.returns-in-None
+returns-in-None c =
     let s = c.args.input.now in
-    unread s c.unreadable-in-Unreadable.ensures (short-enough s c.if-input-gt-MOST_BYTES.false ∙ sym c.read.ensures ∙ c.in-Unreadable.is)
+    unread s c.unreadable-in-None.ensures (short-enough s c.if-input-gt-MOST_BYTES.false ∙ sym c.read.ensures ∙ c.in-None.is)

@@ -1,12 +1,10 @@
 -- The natural numbers of an answer fit 63 bits, so that they can be cast to i64: `proofs/Fitting.antt` shows that
 -- all do.
-use Rattle.std.specs.Prelude.{ℕ, ◌^◌, ◌<◌}
+use Rattle.std.specs.Prelude.{ℕ, ◌^◌, ◌<◌, Option, None, Some}
 use Rattle.nearest.specs.declared.Feature.{Feature}
 use Rattle.nearest.specs.declared.Feature.TheVariants.{Within, Corner, Edge}
 use Rattle.nearest.specs.declared.NearestPoint.{NearestPoint}
 use Rattle.hausdorff.specs.declared.CornerGap.{CornerGap}
-use Rattle.hausdorff.specs.declared.WorstSoFar.{WorstSoFar}
-use Rattle.hausdorff.specs.declared.WorstSoFar.TheVariants.{None, Worst}
 use Rattle.hausdorff.specs.declared.Spent.{Spent}
 use Rattle.hausdorff.specs.declared.Done.{Done}
 use Rattle.hausdorff.specs.declared.Report.{Report}
@@ -35,9 +33,9 @@ pub record CornerFits (w : CornerGap) : Type 0 where
   pub nearest : NearestFits (nearest_of w)
 
 -- of the worst so far
-abbrev pub WorstFits : WorstSoFar → Type 0
+abbrev pub WorstFits : Option CornerGap → Type 0
 WorstFits None = Unit {0}
-WorstFits (Worst w) = CornerFits w
+WorstFits (Some w) = CornerFits w
 
 -- of a done report
 pub record DoneFits (d : Done) : Type 0 where

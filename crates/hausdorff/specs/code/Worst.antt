@@ -1,9 +1,7 @@
 -- The worst so far of a side, computed.
-use Rattle.std.specs.Prelude.{ℕ, Bool, cond, not, ◌&&◌, ◌||◌, ltb}
+use Rattle.std.specs.Prelude.{ℕ, Bool, cond, not, ◌&&◌, ◌||◌, ltb, Option, None, Some}
 use Rattle.integers.specs.Fraction.{is_less}
 use Rattle.hausdorff.specs.declared.CornerGap.{CornerGap}
-use Rattle.hausdorff.specs.declared.WorstSoFar.{WorstSoFar}
-use Rattle.hausdorff.specs.declared.WorstSoFar.TheVariants.{None, Worst}
 
 -- a corner takes the place of another of its side: its gap is greater, or equal and its number as given, `shown`,
 -- lower. The rule goes by the corner alone, not by when it was found
@@ -13,7 +11,7 @@ takes_place shown new old =
     || (not (is_less new.gap old.gap) && ltb (shown new.corner) (shown old.corner))
 
 -- the worst so far of a side, with what a step adds
-abbrev pub keep : (ℕ → ℕ) → WorstSoFar → WorstSoFar → WorstSoFar
+abbrev pub keep : (ℕ → ℕ) → Option CornerGap → Option CornerGap → Option CornerGap
 keep shown None new = new
-keep shown (Worst old) None = Worst old
-keep shown (Worst old) (Worst new) = Worst (cond (takes_place shown new old) new old)
+keep shown (Some old) None = Some old
+keep shown (Some old) (Some new) = Some (cond (takes_place shown new old) new old)

@@ -1,17 +1,16 @@
 -- The default reading of an outline, computed: `proofs/EitherLaws.antt` shows that the checks decide the conditions.
-use Rattle.std.specs.Prelude.{cond, List, [], ◌∷◌, ◌++◌, ℤ}
+use Rattle.outline.specs.declared.Side.{Side}
+use Rattle.std.specs.Prelude.{cond, List, [], ◌∷◌, ◌++◌, ℤ, Option, Result, Ok}
 use Rattle.plane.specs.declared.Corner.{Corner}
 use Rattle.plane.specs.Vector.{◌⇀◌}
 use Rattle.plane.specs.code.Tests.{is_left}
 use Rattle.outline.specs.declared.EitherReading.{EitherReading}
 use Rattle.outline.specs.declared.Orientation.{Orientation}
+use Rattle.outline.specs.declared.Refusal.{Refusal}
 use Rattle.outline.specs.declared.Orientation.TheVariants.{Counterclockwise, Clockwise}
-use Rattle.outline.specs.declared.RefusedSide.{RefusedSide}
-use Rattle.outline.specs.declared.Verdict.{Verdict}
-use Rattle.outline.specs.declared.Verdict.TheVariants.{Taken}
 use Rattle.outline.specs.Corners.{corners, corner, held}
 use Rattle.outline.specs.Orientation.{as_held}
-use Rattle.outline.specs.code.Checks.{first, if_taken}
+use Rattle.outline.specs.code.Checks.{Verdict, first, answer_if}
 use Rattle.outline.specs.code.Reading.{length_checks, check_range, check_repeated, check_convex}
 use Rattle.outline.specs.code.Turns.{is_convex}
 
@@ -24,10 +23,10 @@ orientation_of cs =
 abbrev pub held_corners : List ℤ → List Corner
 held_corners s = as_held (orientation_of (corners s)) (corners s)
 
-module _ (whose : RefusedSide) where
+module _ (whose : Option Side) where
   -- 6
   unfoldable pub check_either_convex : List Corner → Verdict
-  check_either_convex cs = cond (is_convex (as_held (orientation_of cs) cs)) Taken (check_convex whose cs)
+  check_either_convex cs = cond (is_convex (as_held (orientation_of cs) cs)) (Ok tt) (check_convex whose cs)
 
   -- all checks of a list
   abbrev pub either_checks : List ℤ → List Verdict
@@ -39,10 +38,7 @@ module _ (whose : RefusedSide) where
   unfoldable pub check_either : List ℤ → Verdict
   check_either s = first (either_checks s)
 
-  -- what the default reading gives; a refused list gives an outline without corners
-  abbrev pub either_reading : List ℤ → EitherReading
-  either_reading s = record {
-    verdict = check_either s;
-    outline = if_taken (check_either s) (held (held_corners s)) (held []);
-    orientation = if_taken (check_either s) (orientation_of (corners s)) Counterclockwise;
-  }
+  -- what the default reading gives
+  abbrev pub either_reading : List ℤ → Result EitherReading Refusal
+  either_reading s =
+      answer_if (check_either s) (record { outline = held (held_corners s); orientation = orientation_of (corners s) })

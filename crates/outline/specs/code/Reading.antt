@@ -1,17 +1,17 @@
 -- The strict reading, computed: a check for each condition of rule 2.4, in their order, and that of 7, of a point.
 -- `whose` is the side that a refusal names. `proofs/Acceptance.antt` shows that the checks decide the conditions.
-use Rattle.std.specs.Prelude.{ℕ, ◌%◌, Bool, not, ◌&&◌, List, [], ◌∷◌, ◌++◌, eqb, ltb, ℤ, length}
+use Rattle.outline.specs.declared.Side.{Side}
+use Rattle.std.specs.Prelude.{ℕ, ◌%◌, Bool, not, ◌&&◌, List, [], ◌∷◌, ◌++◌, eqb, ltb, ℤ, length, Option, Result}
 use Rattle.plane.specs.declared.Corner.{Corner}
 use Rattle.plane.specs.code.Range.{in_range}
 use Rattle.plane.specs.code.Tests.{is_left, same}
 use Rattle.outline.specs.declared.Place.TheVariants.{Nowhere, At, EdgeAndCorner}
-use Rattle.outline.specs.declared.RefusedSide.{RefusedSide}
-use Rattle.outline.specs.declared.Verdict.{Verdict}
-use Rattle.outline.specs.declared.Reading.{Reading}
+use Rattle.outline.specs.declared.Outline.{Outline}
+use Rattle.outline.specs.declared.Refusal.{Refusal}
 use Rattle.outline.specs.Corners.{corners, corner, next, edge, held, fewest, most}
 use Rattle.outline.specs.Refusal.{refusal}
 use Rattle.outline.specs.Conditions.{odd_length, too_few, too_many, out_of_range, repeated, not_left, point_out_of_range}
-use Rattle.outline.specs.code.Checks.{refuse_if, first, each, if_taken}
+use Rattle.outline.specs.code.Checks.{Verdict, refuse_if, first, each, answer_if}
 
 -- 4, tested: corner i is out of range
 abbrev pub is_out_of_range : List Corner → ℕ → Bool
@@ -32,7 +32,7 @@ is_not_left cs e c =
 abbrev pub check_point : Corner → Verdict
 check_point v = refuse_if (not (in_range v)) (refusal (point_out_of_range v) Nowhere)
 
-module _ (whose : RefusedSide) where
+module _ (whose : Option Side) where
   -- 1
   abbrev pub check_odd_length : List ℤ → Verdict
   check_odd_length s = refuse_if (eqb (length s % 2) 1) (refusal (odd_length whose s) Nowhere)
@@ -77,6 +77,6 @@ module _ (whose : RefusedSide) where
   unfoldable pub check : List ℤ → Verdict
   check s = first (checks s)
 
-  -- what reading gives; a refused list gives an outline without corners
-  abbrev pub reading : List ℤ → Reading
-  reading s = record { verdict = check s; outline = if_taken (check s) (held (corners s)) (held []) }
+  -- what reading gives
+  abbrev pub reading : List ℤ → Result Outline Refusal
+  reading s = answer_if (check s) (held (corners s))

@@ -1,7 +1,6 @@
--- `pairs::compare_pairs` is safe, and ends: it goes on only where the place has grown.
-use Prim.Native.Nat.{◌-◌}
+-- `pairs::compare_pairs` ends: after each pair fewer bytes are left.
 use lib.ListN.{length}
 use Rattle.pairs.proofs.compare_pairs.Given as goal
 
-abbrev pub decreases-loop-place : goal.decreases-loop-place
-decreases-loop-place g l = length l.s - l.place
+abbrev pub decreases-loop-pairs : goal.decreases-loop-pairs
+decreases-loop-pairs g l = length l.pairs

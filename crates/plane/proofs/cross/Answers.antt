@@ -1,14 +1,8 @@
 -- `plane::cross` meets its contract: the two products and their difference are exact in 64 bits.
 use mir.Syntax.{w64}
 use Rattle.integers.proofs.Machine.{stored}
-use Rattle.plane.proofs.Arithmetic.{product-fits, minus-fits, cross-is}
+use Rattle.plane.proofs.Arithmetic.{minus-fits, cross-is}
 use Rattle.plane.proofs.cross.Goals as goal
-
-pub overflow_mul-result : goal.overflow_mul-result
-overflow_mul-result c = search product-fits
-
-pub overflow_mul-result-2 : goal.overflow_mul-result-2
-overflow_mul-result-2 c = search product-fits
 
 pub overflow_sub-result : goal.overflow_sub-result
 overflow_sub-result c = search minus-fits

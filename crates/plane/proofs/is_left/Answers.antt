@@ -4,6 +4,3 @@ use Rattle.plane.proofs.is_left.Goals as goal
 
 pub turns_left-requires : goal.turns_left-requires
 turns_left-requires c = search span-difference
-
-pub returns : goal.returns
-returns c = rw (c.turns_left.ensures, c.difference.ensures)

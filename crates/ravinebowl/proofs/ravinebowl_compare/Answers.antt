@@ -11,16 +11,16 @@ returns-then-res-ne-COMPARE_LENGTH c =
 
 pub write_report-requires : goal.write_report-requires
 write_report-requires c = record {
-  report_fits = report-fits _ _ _ _ c.in-Reported.ensures.rules;
+  report_fits = report-fits _ _ _ _ c.in-Ok.ensures.rules;
   res_len = c.if-res-ne-COMPARE_LENGTH.false;
 }
 
-pub returns-in-Refused : goal.returns-in-Refused
-returns-in-Refused c =
-    let (status, list) = compare-right _ _ _ _ c.if-res-ne-COMPARE_LENGTH.false (sym c.in-Refused.ensures.answer) in
-    record { status = c.refused.ensures ∙ sym status; list = sym list }
+pub returns-in-Err : goal.returns-in-Err
+returns-in-Err c =
+    let (status, list) = compare-right _ _ _ _ c.if-res-ne-COMPARE_LENGTH.false (sym c.in-Err.ensures.answer) in
+    record { status = c.from.ensures ∙ sym status; list = sym list }
 
-pub returns-in-Reported : goal.returns-in-Reported
-returns-in-Reported c =
-    let (status, list) = compare-right _ _ _ _ c.if-res-ne-COMPARE_LENGTH.false (sym c.in-Reported.ensures.answer) in
+pub returns-in-Ok : goal.returns-in-Ok
+returns-in-Ok c =
+    let (status, list) = compare-right _ _ _ _ c.if-res-ne-COMPARE_LENGTH.false (sym c.in-Ok.ensures.answer) in
     record { status = c.answered.ensures ∙ sym status; list = c.write_report.ensures ∙ sym list }

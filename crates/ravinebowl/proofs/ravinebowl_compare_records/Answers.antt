@@ -11,16 +11,16 @@ returns-then-res-ne-COMPARE_LENGTH c =
     let (status, list) = records-wrong _ _ _ _ _ c.if-res-ne-COMPARE_LENGTH.true in
     record { status = c.wrong_result_length.ensures ∙ sym status; list = sym list }
 
-pub returns-in-Refused : goal.returns-in-Refused
-returns-in-Refused c =
-    let read = rw (to_z-of_z c.ranges.a_start, to_z-of_z c.ranges.b_start) at c.in-Refused.ensures in
+pub returns-in-Err : goal.returns-in-Err
+returns-in-Err c =
+    let read = rw (to_z-of_z c.ranges.a_start, to_z-of_z c.ranges.b_start) at c.in-Err.ensures in
     let refuses = (records-refuses _ _ _ _ _).1 read in
     let (status, list) = records-right _ _ _ _ _ c.if-res-ne-COMPARE_LENGTH.false refuses in
-    record { status = c.refused.ensures ∙ sym status; list = sym list }
+    record { status = c.from.ensures ∙ sym status; list = sym list }
 
-pub returns-in-Ended : goal.returns-in-Ended
-returns-in-Ended c =
-    let read = rw (to_z-of_z c.ranges.a_start, to_z-of_z c.ranges.b_start) at c.in-Ended.ensures in
+pub returns-in-Ok : goal.returns-in-Ok
+returns-in-Ok c =
+    let read = rw (to_z-of_z c.ranges.a_start, to_z-of_z c.ranges.b_start) at c.in-Ok.ensures in
     let same = chains-compared _ _ _ _ read in
     let (status, list) = answered-alike _ _ _ _ _ _ _ same in
     record {

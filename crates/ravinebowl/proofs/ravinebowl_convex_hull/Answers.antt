@@ -4,7 +4,6 @@ use mathlib.Core.Path.{sym, ◌∙◌}
 use native.Mathlib.Omega.{arith}
 use Rattle.hull.proofs.CallLaws.{count-at-most}
 use Rattle.ravinebowl.proofs.CallsLaws.{hull-wrong, hull-right, lists-kept, lists-written}
-use Rattle.ravinebowl.proofs.WritingLaws.{written-whole}
 use Rattle.ravinebowl.proofs.ravinebowl_convex_hull.Goals as goal
 
 pub returns-then-res-ne-CONVEX_HULL_LENGTH : goal.returns-then-res-ne-CONVEX_HULL_LENGTH
@@ -19,29 +18,28 @@ returns-then-res-ne-CONVEX_HULL_LENGTH c =
     }
 
 pub of_number-requires : goal.of_number-requires
-of_number-requires c = omega (arith, count-at-most c.in-Made.ensures.rules)
+of_number-requires c = omega (arith, count-at-most c.in-Ok.ensures.rules)
 
-pub returns-in-Refused : goal.returns-in-Refused
-returns-in-Refused c =
+pub returns-in-Err : goal.returns-in-Err
+returns-in-Err c =
     let long = c.if-res-ne-CONVEX_HULL_LENGTH.false in
-    let (status, counted) = hull-right _ _ _ _ long (sym c.in-Refused.ensures.answer) in
+    let (status, counted) = hull-right _ _ _ _ long (sym c.in-Err.ensures.answer) in
     let (list, marked) = lists-written _ _ _ _ long in
     record {
-      status = c.refused.ensures ∙ sym status;
-      list = c.in-Refused.ensures.list ∙ sym list;
-      marked = c.in-Refused.ensures.marked ∙ sym marked;
+      status = c.from.ensures ∙ sym status;
+      list = c.in-Err.ensures.list ∙ sym list;
+      marked = c.in-Err.ensures.marked ∙ sym marked;
       counted = sym counted;
     }
 
-pub returns-in-Made : goal.returns-in-Made
-returns-in-Made c =
-    let whole = written-whole c.args.res.now c.of_number.result (omega arith) c.write.ensures in
+pub returns-in-Ok : goal.returns-in-Ok
+returns-in-Ok c =
     let long = c.if-res-ne-CONVEX_HULL_LENGTH.false in
-    let (status, counted) = hull-right _ _ _ _ long (sym c.in-Made.ensures.answer) in
+    let (status, counted) = hull-right _ _ _ _ long (sym c.in-Ok.ensures.answer) in
     let (list, marked) = lists-written _ _ _ _ long in
     record {
       status = c.answered.ensures ∙ sym status;
-      list = c.in-Made.ensures.list ∙ sym list;
-      marked = c.in-Made.ensures.marked ∙ sym marked;
-      counted = whole ∙ c.of_number.ensures ∙ sym counted;
+      list = c.in-Ok.ensures.list ∙ sym list;
+      marked = c.in-Ok.ensures.marked ∙ sym marked;
+      counted = c.copy_from_slice.ensures.after ∙ c.of_number.ensures ∙ sym counted;
     }

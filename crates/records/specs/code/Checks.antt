@@ -1,16 +1,14 @@
 -- A check for each condition of rule 2.8, in their order. `whose` is the side that a refusal names.
 -- `proofs/CallLaws.antt` shows that the checks decide the conditions.
-use Rattle.std.specs.Prelude.{ℕ, ◌%◌, Bool, not, ◌&&◌, ◌||◌, List, [], ◌∷◌, ◌++◌, eqb, ℤ, pos, length}
+use Rattle.outline.specs.declared.Side.{Side}
+use Rattle.std.specs.Prelude.{ℕ, ◌%◌, Bool, not, ◌&&◌, ◌||◌, List, [], ◌∷◌, ◌++◌, eqb, ℤ, pos, length, Option, Some}
 use Rattle.std.specs.Int.Signed.{lt_z, le_z}
 use Rattle.integers.specs.Equal.{eq_z}
 use Rattle.outline.specs.declared.Place.TheVariants.{Nowhere, At}
-use Rattle.outline.specs.declared.RefusedSide.{RefusedSide}
-use Rattle.outline.specs.declared.RefusedSide.TheVariants.{Of}
 use Rattle.outline.specs.declared.Side.TheVariants.{A, B}
-use Rattle.outline.specs.declared.Verdict.{Verdict}
 use Rattle.outline.specs.Corners.{most}
 use Rattle.outline.specs.Refusal.{refusal}
-use Rattle.outline.specs.code.Checks.{refuse_if}
+use Rattle.outline.specs.code.Checks.{Verdict, refuse_if}
 use Rattle.outline.specs.code.Either.{either_checks}
 use Rattle.records.specs.Chain.{records, Walk, walk, chain_list}
 use Rattle.records.specs.Conditions.{partial_record, too_long, no_such_record}
@@ -27,7 +25,7 @@ is_too_long w = eqb (length w.corners) most && not (eq_z w.index (pos 0))
 abbrev pub is_no_such_record : ℕ → Walk → Bool
 is_no_such_record n w = not (eq_z w.index (pos 0)) && (lt_z w.index (pos 0) || le_z (pos n) w.index)
 
-module _ (whose : RefusedSide) where
+module _ (whose : Option Side) where
   -- 11
   abbrev pub check_too_long : Walk → Verdict
   check_too_long w = refuse_if (is_too_long w) (refusal (too_long whose w) (At (length w.corners)))
@@ -46,4 +44,4 @@ module _ (whose : RefusedSide) where
 
 -- all checks, in the order of the conditions
 abbrev pub records_checks : List ℤ → ℤ → ℤ → List Verdict
-records_checks s a b = check_partial_record s ∷ (chain_checks (Of A) s a ++ chain_checks (Of B) s b)
+records_checks s a b = check_partial_record s ∷ (chain_checks (Some A) s a ++ chain_checks (Some B) s b)

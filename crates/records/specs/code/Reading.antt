@@ -1,12 +1,9 @@
 -- What the code finds when it reads chains, and what it writes.
-use Rattle.std.specs.Prelude.{ℕ, ◌*◌, ◌%◌, ◌≤◌, ◌≡◌, List, ℤ, length, take}
-use Rattle.outline.specs.declared.RefusedSide.{RefusedSide}
+use Rattle.outline.specs.declared.Refusal.{Refusal}
+use Rattle.outline.specs.declared.Side.{Side}
+use Rattle.std.specs.Prelude.{ℕ, ◌*◌, ◌%◌, ◌≤◌, ◌≡◌, List, ℤ, length, take, Option, Result, Ok, Err}
 use Rattle.outline.specs.Corners.{most}
 use Rattle.outline.specs.Refusal.{FirstFault}
-use Rattle.records.specs.declared.ChainVerdict.{ChainVerdict}
-use Rattle.records.specs.declared.ChainVerdict.TheVariants as ChainVerdict
-use Rattle.records.specs.declared.ChainsVerdict.{ChainsVerdict}
-use Rattle.records.specs.declared.ChainsVerdict.TheVariants as ChainsVerdict
 use Rattle.records.specs.Chain.{Ends, chain_list}
 use Rattle.records.specs.Conditions.{index_conditions, records_conditions}
 
@@ -17,11 +14,11 @@ pub record EndsIn (s : List ℤ) (start : ℤ) (n : ℕ) (out : List ℤ) : Type
   pub written : take n out ≡ chain_list s start
 
 -- reading a chain finds this, and leaves the list so
-abbrev pub ReadsChain : RefusedSide → List ℤ → ℤ → ChainVerdict → List ℤ → Type 0
-ReadsChain whose s start (ChainVerdict.Ended n) out = EndsIn s start n out
-ReadsChain whose s start (ChainVerdict.Refused r) out = FirstFault (index_conditions whose s start) r
+abbrev pub ReadsChain : Option Side → List ℤ → ℤ → Result ℕ Refusal → List ℤ → Type 0
+ReadsChain whose s start (Ok n) out = EndsIn s start n out
+ReadsChain whose s start (Err r) out = FirstFault (index_conditions whose s start) r
 
 -- reading the chains of A and B finds this, and leaves the lists so. A refusal is that of the call
-abbrev pub ReadsChains : List ℤ → ℤ → ℤ → ChainsVerdict → List ℤ → List ℤ → Type 0
-ReadsChains s a b (ChainsVerdict.Ended n m) p q = (length s % 3 ≡ 0) × EndsIn s a n p × EndsIn s b m q
-ReadsChains s a b (ChainsVerdict.Refused r) p q = FirstFault (records_conditions s a b) r
+abbrev pub ReadsChains : List ℤ → ℤ → ℤ → Result (ℕ × ℕ) Refusal → List ℤ → List ℤ → Type 0
+ReadsChains s a b (Ok (n, m)) p q = (length s % 3 ≡ 0) × EndsIn s a n p × EndsIn s b m q
+ReadsChains s a b (Err r) p q = FirstFault (records_conditions s a b) r

@@ -6,5 +6,5 @@ use Rattle.summing.proofs.mismatch_sum.Goals as goal
 
 pub overflow_add-result : goal.overflow_add-result
 overflow_add-result c =
-    let fits = mismatch_sum-fits (accepted-held c.requires.accepted_as) (accepted-held c.requires.accepted_as_2) in
+    let fits = mismatch_sum-fits (accepted-held c.args.a.now.accepted) (accepted-held c.args.b.now.accepted) in
     omega (arith, fits, c.side_sum.ensures, c.side_sum-2.ensures)

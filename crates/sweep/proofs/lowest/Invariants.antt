@@ -1,15 +1,7 @@
 -- `sweep::lowest` passes over the corners as held and keeps the lowest, of several the leftmost.
-use mathlib.Core.Path.{◌≡◌}
-use Prim.Native.Nat.{◌-◌}
-use lib.ListN.{length}
-use Rattle.outline.specs.Corners.{corners}
-use Rattle.outline.specs.Orientation.{as_held}
+use Rattle.reading.specs.Accepted.{accepted_corners}
 use Rattle.sweep.proofs.BeginLaws.{Searching}
 use Rattle.sweep.proofs.lowest.Given as goal
 
 abbrev pub invariant-loop-i : goal.invariant-loop-i
-invariant-loop-i l =
-    (l.n ≡ length (as_held l.orientation (corners l.s))) × Searching (as_held l.orientation (corners l.s)) l.found l.i
-
-abbrev pub decreases-loop-i : goal.decreases-loop-i
-decreases-loop-i l = l.n - l.i
+invariant-loop-i l = Searching (accepted_corners l.outline) l.found l.i

@@ -1,9 +1,8 @@
 -- How large a number is that a word gives.
 use Rattle.integers.specs.Size.{AtMost}
-use Rattle.text.specs.declared.input.Parsed.{Parsed}
-use Rattle.text.specs.declared.input.Parsed.TheVariants.{Number, Invalid}
+use Rattle.std.specs.Prelude.{Option, Some, None, ℤ}
 
 -- the number, if there is one, has at most five digits
-abbrev pub IsShort : Parsed → Type 0
-IsShort (Number z) = AtMost 99999 z
-IsShort Invalid = Unit {0}
+abbrev pub IsShort : Option ℤ → Type 0
+IsShort (Some z) = AtMost 99999 z
+IsShort None = Unit {0}

@@ -34,10 +34,10 @@ pub returns-then-stop-eq-MOST : goal.returns-then-stop-eq-MOST
 returns-then-stop-eq-MOST c =
     let is = rw (to_z-of_z c.ranges.start) at c.walk-stop.ensures.stop in
     let z-fits : SFits w32 c.walk-stop.result.index = search sfits_of in
-    stop-long _ _ is _ (not-zero z-fits c.if-stop-eq0.false) c.if-stop-eq-MOST.true
+    rw c.refuse.ensures (stop-long _ _ is _ (not-zero z-fits c.if-stop-eq0.false) c.if-stop-eq-MOST.true)
 
-pub returns-else-stop-eq-MOST : goal.returns-else-stop-eq-MOST
-returns-else-stop-eq-MOST c =
+pub returns : goal.returns
+returns c =
     let is = rw (to_z-of_z c.ranges.start) at c.walk-stop.ensures.stop in
     let z-fits : SFits w32 c.walk-stop.result.index = search sfits_of in
-    stop-none _ _ is _ (not-zero z-fits c.if-stop-eq0.false) c.if-stop-eq-MOST.false
+    rw c.refuse-2.ensures (stop-none _ _ is _ (not-zero z-fits c.if-stop-eq0.false) c.if-stop-eq-MOST.false)

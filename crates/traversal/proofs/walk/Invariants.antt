@@ -1,11 +1,6 @@
 -- `traversal::walk` reads one record a turn.
-use Prim.Native.Nat.{◌-◌}
-use Rattle.outline.specs.Corners.{most}
 use Rattle.traversal.proofs.WalkLaws.{Walking}
 use Rattle.traversal.proofs.walk.Given as goal
 
-abbrev pub invariant-loop-stop : goal.invariant-loop-stop
-invariant-loop-stop l = Walking l.store l.start l.initial.out l.out l.stop
-
-abbrev pub decreases-loop-stop : goal.decreases-loop-stop
-decreases-loop-stop l = most - l.stop.count
+abbrev pub invariant-loop-count : goal.invariant-loop-count
+invariant-loop-count l = Walking l.store l.start l.initial.out l.out (record { count = l.count; index = l.index })

@@ -74,27 +74,12 @@ pub lowest-requires : goal.lowest-requires
 lowest-requires c =
     omega (arith, c.requires.s_len, length-corners c.args.s.now, c.if-length-eq0.false)
 
--- what stands there after it is filled
-pub slice_bounds-zs-end-2 : goal.slice_bounds-zs-end-2
-slice_bounds-zs-end-2 c =
-    let own = own-room _ c.requires.s_len c.requires.s_len_bound c.no_numbers-zs.ensures in
-    taken-fits _ _ _ (copied _ c.no_numbers-zs.result own c.fill.ensures)
-
-pub slice_bounds-wrap-end : goal.slice_bounds-wrap-end
-slice_bounds-wrap-end c =
-    let own = own-room _ c.requires.s_len c.requires.s_len_bound c.no_numbers-zs.ensures in
-    sym (ap length (copied _ c.no_numbers-zs.result own c.fill.ensures))
-
-pub wrap-requires : goal.wrap-requires
-wrap-requires c =
+pub wrap-requires-clause-fact : goal.wrap-requires-clause-fact
+wrap-requires-clause-fact c =
     let s = c.args.s.now in
     let own = own-room _ c.requires.s_len c.requires.s_len_bound c.no_numbers-zs.ensures in
     let some : 0 < length (corners s) = omega (arith, c.requires.s_len, length-corners s, c.if-length-eq0.false) in
-    rw (copied _ c.no_numbers-zs.result own c.fill.ensures) (record {
-      fact = low-member (corners s) some c.lowest.ensures;
-      zs_in_bounds = omega (arith, c.requires.s_len_bound, c.requires.hull_len);
-      all_in_range = c.requires.all_in_range;
-    })
+    rw (copied _ c.no_numbers-zs.result own c.fill.ensures) (low-member (corners s) some c.lowest.ensures)
 
 pub returns : goal.returns
 returns c =

@@ -3,7 +3,7 @@ use native.Mathlib.Omega.{arith}
 use Prim.Native.Nat.{◌*◌, ◌≤◌, ◌<◌}
 use mathlib.Core.List.{List, Memᴰ}
 use lib.IntN.{ℤ}
-use lib.ListN.{length, length-take}
+use lib.ListN.{length}
 use Rattle.plane.specs.declared.Corner.{Corner}
 use Rattle.plane.specs.Range.{InRange}
 use Rattle.outline.specs.Convex.{AllInRange}
@@ -19,22 +19,22 @@ start-in-range there all = let (i, below, is) = member-corner there in rw is at 
 first-room : {s : Corner} (cs : List Corner) (hull : List ℤ) → Memᴰ s cs → 2 * length cs ≤ length hull → 1 < length hull
 first-room cs hull there room = let (i, below, is) = member-corner there in omega arith
 
-pub put_corner-requires : goal.put_corner-requires
-put_corner-requires c =
-    first-room _ c.args.hull.now c.requires.fact c.requires.zs_in_bounds
+pub keep_candidates-left-requires-clause-in_range : goal.keep_candidates-left-requires-clause-in_range
+keep_candidates-left-requires-clause-in_range c = start-in-range c.requires.fact c.requires.all_in_range
 
-pub keep_candidates-left-requires : goal.keep_candidates-left-requires
-keep_candidates-left-requires c =
-    let start_in = start-in-range c.requires.fact c.requires.all_in_range in
-    record { all_in_range = c.requires.all_in_range; in_range = start_in; in_range_2 = start_in }
+pub keep_candidates-left-requires-clause-in_range_2 : goal.keep_candidates-left-requires-clause-in_range_2
+keep_candidates-left-requires-clause-in_range_2 c = start-in-range c.requires.fact c.requires.all_in_range
 
-pub overflow_mul-left : goal.overflow_mul-left
-overflow_mul-left c =
-    omega (arith, c.loop-left.invariant.fits, c.loop-left.invariant.long, c.keep_candidates-left.ensures.long)
+pub foremost-last-requires-clause-nonzero : goal.foremost-last-requires-clause-nonzero
+foremost-last-requires-clause-nonzero c =
+    omega (arith, part_count c.loop-left.zs c.loop-left.left c.loop-left.invariant.fits)
 
-pub overflow_mul-left-in-loop-left : goal.overflow_mul-left-in-loop-left
-overflow_mul-left-in-loop-left c =
-    omega (arith, c.loop-left.invariant.fits, c.loop-left.invariant.long, c.keep_candidates-left.ensures.long)
+pub keep_candidates-left-requires-in-loop-left-clause-in_range : goal.keep_candidates-left-requires-in-loop-left-clause-in_range
+keep_candidates-left-requires-in-loop-left-clause-in_range c = start-in-range c.requires.fact c.requires.all_in_range
+
+pub keep_candidates-left-requires-in-loop-left-clause-in_range_2 : goal.keep_candidates-left-requires-in-loop-left-clause-in_range_2
+keep_candidates-left-requires-in-loop-left-clause-in_range_2 c =
+    next-in-range c.loop-left.invariant c.loop-left-test.true c.foremost-last.ensures
 
 pub overflow_add-count : goal.overflow_add-count
 overflow_add-count c =
@@ -51,41 +51,11 @@ loop-left-init c =
     (wrap-start c.args.hull.now c.keep_candidates-left.ensures c.requires.all_in_range
     (start-in-range c.requires.fact c.requires.all_in_range) (first-room _ c.args.hull.now c.requires.fact c.requires.zs_in_bounds))
 
-pub slice_bounds-foremost-end : goal.slice_bounds-foremost-end
-slice_bounds-foremost-end c = c.loop-left.invariant.fits
-
-pub slice_bounds-foremost-end-in-loop-left : goal.slice_bounds-foremost-end-in-loop-left
-slice_bounds-foremost-end-in-loop-left c = rw length-take (omega (arith, c.loop-left.invariant.fits))
-
-pub foremost-last-requires : goal.foremost-last-requires
-foremost-last-requires c =
-    let inv = c.loop-left.invariant in
-    record {
-      nonzero = omega (arith, part_count c.loop-left.zs c.loop-left.left inv.fits);
-      all_in_range = inv.all_in_range;
-      in_range = inv.last_in_range;
-    }
-
 pub put_corner-requires-in-loop-left : goal.put_corner-requires-in-loop-left
 put_corner-requires-in-loop-left c =
     wrap-room c.loop-left.invariant c.loop-left-test.true
     (keeps-room c.keep_candidates-left.ensures c.requires.fact c.args.hull.now _ c.requires.zs_in_bounds
     c.put_corner.ensures)
-
-pub slice_bounds-keep_candidates-end : goal.slice_bounds-keep_candidates-end
-slice_bounds-keep_candidates-end c = c.loop-left.invariant.fits
-
-pub slice_bounds-keep_candidates-end-in-loop-left : goal.slice_bounds-keep_candidates-end-in-loop-left
-slice_bounds-keep_candidates-end-in-loop-left c =
-    rw length-take (omega (arith, c.loop-left.invariant.fits))
-
-pub keep_candidates-left-requires-in-loop-left : goal.keep_candidates-left-requires-in-loop-left
-keep_candidates-left-requires-in-loop-left c =
-    record {
-      all_in_range = c.loop-left.invariant.all_in_range;
-      in_range = start-in-range c.requires.fact c.requires.all_in_range;
-      in_range_2 = next-in-range c.loop-left.invariant c.loop-left-test.true c.foremost-last.ensures;
-    }
 
 pub loop-left-smaller : goal.loop-left-smaller
 loop-left-smaller c =

@@ -3,4 +3,4 @@ use Rattle.answer_text.proofs.AppendedLaws.{empty-text, longer-text}
 use Rattle.case_lines.proofs.comparison.print_refusal.Goals as goal
 
 pub write-requires : goal.write-requires
-write-requires g c = longer-text _ _ c.refusal.ensures (empty-text c.empty.ensures)
+write-requires g c = search (longer-text, empty-text)

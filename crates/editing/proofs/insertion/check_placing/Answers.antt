@@ -6,10 +6,10 @@ use mathlib.Core.Bool.{true, false}
 use mathlib.Core.List.{List}
 use Prim.Native.Nat.{ℕ, ◌+◌, ◌*◌, ◌≤◌, ◌<◌}
 use lib.ListN.{length}
+use Rattle.std.specs.Prelude.{Ok, Err}
 use Rattle.plane.specs.declared.Corner.{Corner}
 use Rattle.plane.specs.code.Range.{in_range}
 use Rattle.outline.specs.declared.Place.TheVariants.{Nowhere}
-use Rattle.outline.specs.declared.Verdict.TheVariants.{Taken, Refused}
 use Rattle.outline.specs.Conditions.{point_out_of_range}
 use Rattle.outline.specs.Corners.{most}
 use Rattle.outline.specs.Refusal.{refusal}
@@ -21,23 +21,23 @@ use Rattle.editing.proofs.insertion.check_placing.Goals as goal
 
 -- the four tests, one after the other, of a list with n corners
 module _ (cs : List Corner) (k : ℕ) (v : Corner) (room : ℕ) {n : ℕ} (count : n ≡ length cs) where
-  past : n < k → Refused (refusal (past_count cs k) Nowhere) ≡ check_placing cs k v room
+  past : n < k → Err (refusal (past_count cs k) Nowhere) ≡ check_placing cs k v room
   unfolding check_placing
   past is = rw (← count, lt-ltb n k is)
 
   module _ (known : k ≤ n) where
-    out : in_range v ≡ false → Refused (refusal (point_out_of_range v) Nowhere) ≡ check_placing cs k v room
+    out : in_range v ≡ false → Err (refusal (point_out_of_range v) Nowhere) ≡ check_placing cs k v room
     unfolding check_placing
     out is = rw (← count, le-ltb n k known, is)
 
     module _ (all_in_range : in_range v ≡ true) where
-      already : n ≡ most → Refused (refusal (full cs) Nowhere) ≡ check_placing cs k v room
+      already : n ≡ most → Err (refusal (full cs) Nowhere) ≡ check_placing cs k v room
       unfolding check_placing
       already is = rw (← count, le-ltb n k known, all_in_range, eq-eqb n most is)
 
       module _ (fewer : n ≢ most) where
         wrong-length : room ≢ 2 * (n + 1)
-            → Refused (refusal (wrong_length (inserted k v cs) room) Nowhere) ≡ check_placing cs k v room
+            → Err (refusal (wrong_length (inserted k v cs) room) Nowhere) ≡ check_placing cs k v room
         unfolding check_placing
         wrong-length is =
             rw (
@@ -49,7 +49,7 @@ module _ (cs : List Corner) (k : ℕ) (v : Corner) (room : ℕ) {n : ℕ} (count
               ne_eqb room (2 * (n + 1)) is,
             )
 
-        nothing : room ≡ 2 * (n + 1) → Taken ≡ check_placing cs k v room
+        nothing : room ≡ 2 * (n + 1) → Ok tt ≡ check_placing cs k v room
         unfolding check_placing
         nothing is =
             rw (

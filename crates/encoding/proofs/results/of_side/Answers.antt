@@ -17,6 +17,3 @@ pub of_worst-requires : goal.of_worst-requires
 of_worst-requires c =
     let given = c.args in
     rw c.reported_of.ensures (side-fits given.side given.report c.requires)
-
-pub returns : goal.returns
-returns c = rw (c.of_worst.ensures, c.reported_of.ensures)

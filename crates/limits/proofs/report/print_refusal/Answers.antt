@@ -3,6 +3,4 @@ use Rattle.answer_text.proofs.AppendedLaws.{empty-text, longer-text}
 use Rattle.limits.proofs.report.print_refusal.Goals as goal
 
 pub write-requires : goal.write-requires
-write-requires g c =
-    let word = longer-text _ _ c.bytes.ensures (empty-text c.empty.ensures) in
-    longer-text _ _ c.place.ensures (longer-text _ _ c.natural-t.ensures word)
+write-requires g c = search (longer-text, empty-text)

@@ -1,8 +1,7 @@
 -- `projection::answers::at_corner` puts the answer together; the squared distance keeps its size as a u64.
 use Rattle.plane.specs.code.Range.{Span, reach}
 use Rattle.plane.proofs.Range.{span-difference}
-use Rattle.nearest.specs.declared.Feature.TheVariants as Feature
-use Rattle.projection.proofs.Sizes.{length-cast, length-exact}
+use Rattle.projection.proofs.Sizes.{length-cast}
 use Rattle.projection.proofs.answers.at_corner.Goals as goal
 
 pub squared_length-gap-requires : goal.squared_length-gap-requires
@@ -12,13 +11,3 @@ pub overflow_cast-result : goal.overflow_cast-result
 overflow_cast-result c =
     let reached : Span reach c.difference.result = search span-difference in
     length-cast c.squared_length-gap.ensures reached
-
-pub returns : goal.returns
-returns c =
-    let reached : Span reach c.difference.result = search span-difference in
-    let size = rw c.difference.ensures at (length-exact c.squared_length-gap.ensures reached) in
-    λ k. record {
-      feature = Feature.Corner c.args.i;
-      gap = record { upper = size k; lower = 1 };
-      point = c.whole.ensures k;
-    }

@@ -21,15 +21,6 @@ sum : {l s t r : ℤ} → AtMost product_limit l → AtMost limit s → AtMost p
     → Exact (product_limit * limit + product_limit * reach) (l *ℤ s +ℤ t *ℤ r) (i64 (i64 l *ℤ i64 (i32 s)) +ℤ i64 (i64 t *ℤ i64 r))
 sum l s t r = plus (stored w64 (first l s) tt) (stored w64 (second t r) tt)
 
-pub overflow_cast-from : goal.overflow_cast-from
-overflow_cast-from c = fits (start_is c.requires.at_most_2) tt
-
-pub overflow_mul-result : goal.overflow_mul-result
-overflow_mul-result c = fits (first c.requires.at_most c.requires.at_most_2) tt
-
-pub overflow_mul-result-2 : goal.overflow_mul-result-2
-overflow_mul-result-2 c = fits (second c.requires.at_most_3 c.requires.at_most_4) tt
-
 pub overflow_add-result : goal.overflow_add-result
 overflow_add-result c = fits (sum c.requires.at_most c.requires.at_most_2 c.requires.at_most_3 c.requires.at_most_4) tt
 

@@ -1,7 +1,7 @@
 -- `projection::local::corner_is_nearest` makes the definition's three tests, the last of them first.
 use borrow.Author.Rules.{sfits_of}
 use mathlib.Core.Bool.{Bool, true, false, not, and-true, and-false}
-use mathlib.Core.Path.{◌≡◌}
+use mathlib.Core.Path.{◌≡◌, ◌∙◌}
 use lib.IntN.{ℤ, pos}
 use lib.Signed.{lt_z, le_z}
 use mir.Facts.{to_z-of_z}
@@ -12,6 +12,7 @@ use Rattle.plane.specs.declared.Corner.{Corner}
 use Rattle.plane.specs.Vector.{◌⇀◌, dot}
 use Rattle.plane.specs.code.Tests.{same}
 use Rattle.plane.proofs.Range.{span-difference}
+use Rattle.plane.proofs.Tests.{same-is}
 use Rattle.nearest.specs.code.Local.{corner_is_nearest}
 use Rattle.projection.proofs.local.corner_is_nearest.Goals as goal
 
@@ -61,9 +62,9 @@ pub returns : goal.returns
 returns c =
     let after-fits : SFits w64 c.dot.result = search sfits_of in
     let before-fits : SFits w64 c.dot-2.result = search sfits_of in
-    neither _ _ _ _
+    c.ne.ensures ∙ neither _ _ _ _
     (rw (to_z-of_z after-fits, c.dot.ensures, c.difference.ensures, c.difference-to.ensures)
     at c.if-dot-gt0.false)
     (rw (to_z-of_z before-fits, c.dot-2.ensures, c.difference-2.ensures, c.difference-to.ensures)
     at c.if-dot-gt0-2.false)
-    c.same.ensures
+    (same-is _ _)

@@ -32,7 +32,7 @@ take_edge-edge-requires c = c.requires.e_in_bounds
 
 pub loop-c-init : goal.loop-c-init
 unfolding check_edge
-loop-c-init c = test-start _ c.count-n.ensures refl
+loop-c-init c = test-start _ c.count-c-end.ensures refl
 
 pub is_not_left-requires : goal.is_not_left-requires
 is_not_left-requires c =

@@ -1,5 +1,4 @@
 -- `reading::checks::check_edge` takes the edge out of the list once and tests the corners against it in order.
-use Prim.Native.Nat.{◌-◌}
 use Rattle.outline.specs.declared.Place.TheVariants.{EdgeAndCorner}
 use Rattle.outline.specs.Conditions.{not_left}
 use Rattle.outline.specs.Corners.{corners}
@@ -11,7 +10,4 @@ use Rattle.reading.proofs.checks.check_edge.Given as goal
 abbrev pub invariant-loop-c : goal.invariant-loop-c
 invariant-loop-c l =
     Testing (is_not_left (corners l.s) l.e)
-    (λ j. refusal (not_left l.whose (corners l.s)) (EdgeAndCorner l.e j)) (check_edge l.whose (corners l.s) l.e) l.n l.c
-
-abbrev pub decreases-loop-c : goal.decreases-loop-c
-decreases-loop-c l = l.n - l.c
+    (λ j. refusal (not_left l.whose (corners l.s)) (EdgeAndCorner l.e j)) (check_edge l.whose (corners l.s) l.e) l.c-end l.c

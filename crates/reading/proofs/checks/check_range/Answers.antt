@@ -6,7 +6,7 @@ use Rattle.reading.proofs.checks.check_range.Goals as goal
 
 pub loop-i-init : goal.loop-i-init
 unfolding check_range
-loop-i-init c = test-start _ c.count-n.ensures refl
+loop-i-init c = test-start _ c.count-i-end.ensures refl
 
 pub returns-then-is_out_of_range : goal.returns-then-is_out_of_range
 returns-then-is_out_of_range c = search testing

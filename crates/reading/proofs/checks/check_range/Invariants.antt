@@ -1,5 +1,4 @@
 -- `reading::checks::check_range` tests the corners in order.
-use Prim.Native.Nat.{◌-◌}
 use Rattle.outline.specs.declared.Place.TheVariants.{At}
 use Rattle.outline.specs.Conditions.{out_of_range}
 use Rattle.outline.specs.Corners.{corners}
@@ -11,7 +10,4 @@ use Rattle.reading.proofs.checks.check_range.Given as goal
 abbrev pub invariant-loop-i : goal.invariant-loop-i
 invariant-loop-i l =
     Testing (is_out_of_range (corners l.s)) (λ j. refusal (out_of_range l.whose (corners l.s)) (At j))
-    (check_range l.whose (corners l.s)) l.n l.i
-
-abbrev pub decreases-loop-i : goal.decreases-loop-i
-decreases-loop-i l = l.n - l.i
+    (check_range l.whose (corners l.s)) l.i-end l.i

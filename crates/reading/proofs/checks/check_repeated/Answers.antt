@@ -6,7 +6,7 @@ use Rattle.reading.proofs.checks.check_repeated.Goals as goal
 
 pub loop-i-init : goal.loop-i-init
 unfolding check_repeated
-loop-i-init c = test-start _ c.count-n.ensures refl
+loop-i-init c = test-start _ c.count-i-end.ensures refl
 
 pub returns-then-is_repeated : goal.returns-then-is_repeated
 returns-then-is_repeated c = search testing

@@ -1,5 +1,4 @@
 -- `reading::checks::check_repeated` tests the corners in order.
-use Prim.Native.Nat.{◌-◌}
 use Rattle.outline.specs.declared.Place.TheVariants.{At}
 use Rattle.outline.specs.Conditions.{repeated}
 use Rattle.outline.specs.Corners.{corners}
@@ -11,7 +10,4 @@ use Rattle.reading.proofs.checks.check_repeated.Given as goal
 abbrev pub invariant-loop-i : goal.invariant-loop-i
 invariant-loop-i l =
     Testing (is_repeated (corners l.s)) (λ j. refusal (repeated l.whose (corners l.s)) (At j))
-    (check_repeated l.whose (corners l.s)) l.n l.i
-
-abbrev pub decreases-loop-i : goal.decreases-loop-i
-decreases-loop-i l = l.n - l.i
+    (check_repeated l.whose (corners l.s)) l.i-end l.i

@@ -1,5 +1,4 @@
 -- `reading::checks::is_convex` visits the corners in order and tests each by its visit and that of the corner before.
-use Prim.Native.Nat.{◌-◌}
 use Rattle.outline.specs.Corners.{corners}
 use Rattle.outline.specs.Orientation.{as_held}
 use Rattle.reading.proofs.VisitLaws.{Visiting}
@@ -7,6 +6,3 @@ use Rattle.reading.proofs.checks.is_convex.Given as goal
 
 abbrev pub invariant-loop-k : goal.invariant-loop-k
 invariant-loop-k l = Visiting (as_held l.orientation (corners l.s)) l.n l.apex l.run l.last l.k
-
-abbrev pub decreases-loop-k : goal.decreases-loop-k
-decreases-loop-k l = l.n - l.k

@@ -13,7 +13,7 @@ loop-i-init c =
     fill_start (c.count-n.ensures ∙ sym as_many) (rw as_many c.requires) c.unfilled-outline.ensures
 
 pub loop-i-preserved : goal.loop-i-preserved
-loop-i-preserved c = fill_on c.loop-i.invariant c.loop-i-test.true c.held_corner.ensures
+loop-i-preserved c = fill_on c.loop-i.invariant (omega arith) c.held_corner.ensures
 
 pub returns : goal.returns
 returns c = fill_end c.loop-i.invariant (omega arith)

@@ -1,84 +1,75 @@
 -- `text::input::natural` goes over the bytes, digit by digit.
-use mathlib.Core.Bool.{true, false}
-use mathlib.Core.List.{List}
-use mathlib.Core.Path.{◌≡◌, sym, ◌∙◌}
+use Rattle.std.proofs.Common.{ℕ, ◌+◌, ◌^◌, ◌≤◌, ◌<◌, Bool, true, false, cond, List, length, get_or, pos, Some, None}
+use Rattle.std.proofs.Common.{◌≡◌, sym, ◌∙◌, rules, arith, add-one}
+use Rattle.std.proofs.Common.{w32, SFits, to_z-of_z, drop_of_length-le, refl}
 use native.Mathlib.Nat.{pow-zero, pow-le-pow_right}
-use native.Mathlib.Numerals.{add-one}
-use native.Mathlib.Omega.{arith}
-use Prim.Native.Nat.{ℕ, ◌+◌, ◌^◌, ◌≤◌, ◌<◌}
-use lib.IntN.{pos}
-use lib.ListN.{length, get_or, drop_of_length-le}
-use mir.Facts.{to_z-of_z}
-use mir.Syntax.{w32}
-use mir.Val.{SFits, to_z}
-use Rattle.text.specs.declared.input.Parsed.TheVariants.{Number, Invalid}
 use Rattle.text.specs.Number.{is_digit, all_digits, with_digit, value_from, natural}
-use Rattle.text.proofs.NumberLaws.{all-digits-next, value-next, with-digit-below}
-use Rattle.text.proofs.NumberLaws.{natural-empty, natural-long, natural-is}
+use Rattle.text.proofs.NumberLaws.{all-digits-next, value-next, with-digit-below, natural-empty, natural-long, natural-is}
 use Rattle.text.proofs.input.natural.Invariants.{Passed}
 use Rattle.text.proofs.input.natural.Goals as goal
+use Rattle.text.proofs.input.natural.Goals.{then-is_empty-via-then-is_empty}
+use Rattle.text.proofs.input.natural.Goals.{then-is_empty-via-else-is_empty+then-w-gt-MOST_DIGITS}
 
-none_passed : (w : List ℕ) → 0 < length w → length w ≤ 5 → Passed w 0 0
-none_passed w some short =
-    let below : 0 < 10 ^ 0 = omega (arith, pow-zero 10) in
-    record { some = some; short = short; most = omega arith; below = below; gives = natural-is w some short }
+no-digit : (t : Bool) (n : ℕ) → None ≡ cond t (Some n) None → t ≡ false
+no-digit true n is = search rules
+no-digit false n is = refl
+
+one-digit : (t : Bool) (n m : ℕ) → Some m ≡ cond t (Some n) None → (t ≡ true) × (m ≡ n)
+one-digit true n m is = (refl, search rules)
+one-digit false n m is = search rules
 
 module _ {w : List ℕ} {v i : ℕ} (p : Passed w v i) where
   digits-below : (k : ℕ) → i ≤ k → v < 10 ^ k
   digits-below k most = omega (arith, p.below, pow-le-pow_right {n = 10} (omega arith) most)
 
-  -- with four digits at the most, one more fits
-  four-digits : i < length w → v < 10000
-  four-digits below = digits-below 4 (omega (arith, p.short))
+  five-fit : i ≤ length w → SFits w32 (pos v)
+  five-fit most = record { sfits = omega (arith, digits-below 5 (omega (arith, p.short))) }
 
-  five-fit : SFits w32 (pos v)
-  five-fit = record { sfits = omega (arith, digits-below 5 (omega (arith, p.most, p.short))) }
-
-  stops : i < length w → is_digit (get_or w i 0) ≡ false → Invalid ≡ natural w
-  stops below other = rw (p.gives, all-digits-next w i below, other)
-
-  goes_on : i < length w → is_digit (get_or w i 0) ≡ true → Passed w (with_digit v (get_or w i 0)) (i + 1)
-  goes_on below digit = record {
-    some = p.some;
-    short = p.short;
-    most = omega arith;
-    below = rw add-one (with-digit-below v (get_or w i 0) i p.below digit);
-    gives = rw (p.gives, all-digits-next w i below, digit, value-next v w i below);
-  }
-
-  all-passed : length w ≤ i → Number (to_z w32 v) ≡ natural w
+  all-passed : length w ≤ i → Some (pos v) ≡ natural w
   unfolding all_digits value_from
-  all-passed past =
-      let exact : to_z w32 v ≡ pos v = to_z-of_z five-fit in
-      rw (exact, p.gives, drop_of_length-le w past)
+  all-passed past = rw (p.gives, drop_of_length-le w past)
 
-pub returns-then-n-eq0 : goal.returns-then-n-eq0
-returns-then-n-eq0 c = sym (natural-empty c.args.w.now c.if-n-eq0.true)
+  module _ (below : i < length w) where
+    stops : None ≡ cond (is_digit (get_or w i 0)) (Some (with_digit v (get_or w i 0))) None → None ≡ natural w
+    stops is = rw (p.gives, all-digits-next w i below, no-digit _ _ is)
 
-pub returns-then-n-gt-MOST_DIGITS : goal.returns-then-n-gt-MOST_DIGITS
-returns-then-n-gt-MOST_DIGITS c = sym (natural-long c.args.w.now c.if-n-gt-MOST_DIGITS.true)
+    goes_on : (m : ℕ) → Some m ≡ cond (is_digit (get_or w i 0)) (Some (with_digit v (get_or w i 0))) None
+        → Passed w m (i + 1)
+    goes_on m is =
+        let (digit, next) = one-digit _ _ _ is in
+        rw next (record {
+          some = p.some;
+          short = p.short;
+          below = rw add-one (with-digit-below v (get_or w i 0) i p.below digit);
+          gives = rw (p.gives, all-digits-next w i below, digit, value-next v w i below);
+        })
 
-pub loop-i-init : goal.loop-i-init
-loop-i-init c = none_passed c.args.w.now (omega arith) (omega arith)
+pub returns-then-is_empty : goal.returns-then-is_empty
+returns-then-is_empty c =
+    elim c.then-is_empty.branch [
+      | then-is_empty-via-then-is_empty w ↦ sym (natural-empty _ (search rules))
+      | then-is_empty-via-else-is_empty+then-w-gt-MOST_DIGITS w ↦ sym (natural-long _ w.if-w-gt-MOST_DIGITS.true)
+    ]
 
-pub returns-then-not-is_digit : goal.returns-then-not-is_digit
-returns-then-not-is_digit c =
-    stops c.loop-i.invariant (omega arith)
-    (sym c.is_digit.ensures ∙ c.if-not-is_digit.true)
+pub loop-b-init : goal.loop-b-init
+loop-b-init c =
+    let some : 0 < length c.args.w.now = search rules in
+    let short = c.if-w-gt-MOST_DIGITS.false in
+    record { some = some; short = short; below = omega (arith, pow-zero 10); gives = natural-is _ some short }
 
-pub with_digit-value-requires : goal.with_digit-value-requires
-with_digit-value-requires c = record {
-  value_bound = four-digits c.loop-i.invariant (omega arith);
-  b_value = sym c.is_digit.ensures ∙ c.if-not-is_digit.false;
-}
+pub with_digit-requires : goal.with_digit-requires
+with_digit-requires c = digits-below c.loop-b.invariant 4 (omega (arith, c.loop-b.invariant.short))
 
-pub loop-i-preserved : goal.loop-i-preserved
-loop-i-preserved c =
-    rw c.with_digit-value.ensures (goes_on c.loop-i.invariant (omega arith)
-    (sym c.is_digit.ensures ∙ c.if-not-is_digit.false))
+pub returns-in_err-value : goal.returns-in_err-value
+returns-in_err-value c = c.from_residual.ensures ∙ stops c.loop-b.invariant c.loop-b-test.true c.in_err-value.ensures
+
+pub loop-b-preserved : goal.loop-b-preserved
+loop-b-preserved c = goes_on c.loop-b.invariant c.loop-b-test.true _ c.in_ok-value.ensures
 
 pub overflow_cast-result : goal.overflow_cast-result
-overflow_cast-result c = five-fit c.loop-i.invariant
+overflow_cast-result c = five-fit c.loop-b.invariant c.loop-b.auto.b-index-end
 
 pub returns : goal.returns
-returns c = all-passed c.loop-i.invariant (omega arith)
+returns c =
+    rw (to_z-of_z (five-fit c.loop-b.invariant c.loop-b.auto.b-index-end))
+    (all-passed c.loop-b.invariant (omega arith))

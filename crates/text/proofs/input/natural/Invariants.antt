@@ -1,11 +1,5 @@
 -- `text::input::natural` goes over the bytes, digit by digit.
-use mathlib.Core.Bool.{cond}
-use mathlib.Core.List.{List}
-use mathlib.Core.Path.{◌≡◌}
-use Prim.Native.Nat.{ℕ, ◌-◌, ◌^◌, ◌≤◌, ◌<◌}
-use lib.IntN.{pos}
-use lib.ListN.{length, drop}
-use Rattle.text.specs.declared.input.Parsed.TheVariants.{Number, Invalid}
+use Rattle.std.proofs.Common.{ℕ, ◌≤◌, ◌<◌, ◌^◌, ◌≡◌, cond, List, length, drop, pos, Some, None}
 use Rattle.text.specs.Number.{all_digits, value_from, natural}
 use Rattle.text.proofs.input.natural.Given as goal
 
@@ -13,12 +7,8 @@ use Rattle.text.proofs.input.natural.Given as goal
 pub record Passed (w : List ℕ) (v i : ℕ) : Type 0 where
   pub some : 0 < length w
   pub short : length w ≤ 5
-  pub most : i ≤ length w
   pub below : v < 10 ^ i
-  pub gives : natural w ≡ cond (all_digits (drop i w)) (Number (pos (value_from v (drop i w)))) Invalid
+  pub gives : natural w ≡ cond (all_digits (drop i w)) (Some (pos (value_from v (drop i w)))) None
 
-abbrev pub invariant-loop-i : goal.invariant-loop-i
-invariant-loop-i l = Passed l.w l.value l.i
-
-abbrev pub decreases-loop-i : goal.decreases-loop-i
-decreases-loop-i l = l.n - l.i
+abbrev pub invariant-loop-b : goal.invariant-loop-b
+invariant-loop-b l = Passed l.w l.value l.b-index

@@ -41,24 +41,14 @@ module _ (p z q : Corner) {run : Vector} (from : run ≡ p ⇀ q) {right : Bool}
             (test-eq_z (cross run (p ⇀ z)) (pos 0)).1
             (≤ℤ-antisym (lt_z-false (sym of_left ∙ not_left)) (lt_z-false (sym of_right ∙ not_right)))
 
-pub is_right-requires : goal.is_right-requires
-is_right-requires c =
-    record {
-      span = span-difference c.difference-run.ensures c.requires.in_range c.requires.in_range_3;
-      in_range = c.requires.in_range;
-      in_range_2 = c.requires.in_range_2;
-    }
+pub is_right-requires-clause-span : goal.is_right-requires-clause-span
+is_right-requires-clause-span c = span-difference c.difference-run.ensures c.requires.in_range c.requires.in_range_3
 
 pub returns-then-is_right : goal.returns-then-is_right
 returns-then-is_right c = before _ _ _ c.difference-run.ensures c.is_right.ensures c.if-is_right.true
 
-pub is_left-requires : goal.is_left-requires
-is_left-requires c =
-    record {
-      span = span-difference c.difference-run.ensures c.requires.in_range c.requires.in_range_3;
-      in_range = c.requires.in_range;
-      in_range_2 = c.requires.in_range_2;
-    }
+pub is_left-requires-clause-span : goal.is_left-requires-clause-span
+is_left-requires-clause-span c = span-difference c.difference-run.ensures c.requires.in_range c.requires.in_range_3
 
 pub returns-then-is_left : goal.returns-then-is_left
 returns-then-is_left c =

@@ -1,11 +1,12 @@
 -- `wrapping::points::is_candidate` goes by whether p is the start.
-use mathlib.Core.Path.{◌≡◌}
+use mathlib.Core.Path.{◌≡◌, ◌∙◌}
 use mathlib.Core.Bool.{Bool, true, false, not}
 use Rattle.plane.specs.declared.Corner.{Corner}
 use Rattle.plane.specs.declared.Vector.{Vector}
 use Rattle.plane.specs.Vector.{◌⇀◌}
 use Rattle.plane.specs.code.Tests.{is_left, same}
 use Rattle.plane.proofs.Range.{span-difference}
+use Rattle.plane.proofs.Tests.{same-is}
 use Rattle.hull.specs.code.Wrapping.{is_candidate}
 use Rattle.wrapping.proofs.points.is_candidate.Goals as goal
 
@@ -19,18 +20,13 @@ module _ (s p z : Corner) {t : Bool} (tested : t ≡ same s p) where
   unfolding is_candidate
   later is from other = rw (← tested, other, ← from) is
 
-pub returns-then-same : goal.returns-then-same
-returns-then-same c = from_start _ _ _ c.same.ensures c.same-then-same.ensures c.if-same.true
+pub returns-then-eq : goal.returns-then-eq
+returns-then-eq c = c.ne.ensures ∙ from_start _ _ _ (c.eq.ensures ∙ same-is _ _) (same-is _ _) c.if-eq.true
 
-pub is_left-requires : goal.is_left-requires
-is_left-requires c =
-    record {
-      span = span-difference c.difference.ensures c.requires.in_range c.requires.in_range_2;
-      in_range = c.requires.in_range;
-      in_range_2 = c.requires.in_range_3;
-    }
+pub is_left-requires-clause-span : goal.is_left-requires-clause-span
+is_left-requires-clause-span c = span-difference c.difference.ensures c.requires.in_range c.requires.in_range_2
 
 pub returns : goal.returns
 returns c =
-    later _ _ _ c.same.ensures c.is_left.ensures c.difference.ensures
-    c.if-same.false
+    later _ _ _ (c.eq.ensures ∙ same-is _ _) c.is_left.ensures c.difference.ensures
+    c.if-eq.false

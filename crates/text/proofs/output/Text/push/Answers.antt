@@ -4,10 +4,10 @@ use Rattle.text.specs.Output.{room}
 use Rattle.text.specs.code.Output.{pushed}
 use Rattle.text.proofs.output.Text.push.Goals as goal
 
-pub returns-then-at-ge-ROOM : goal.returns-then-at-ge-ROOM
+pub returns-then-self-lt-ROOM : goal.returns-then-self-lt-ROOM
 unfolding pushed
-returns-then-at-ge-ROOM c = simp (le-ltb _ room c.if-at-ge-ROOM.true)
+returns-then-self-lt-ROOM c = simp (lt-ltb _ room c.if-self-lt-ROOM.true)
 
-pub returns : goal.returns
+pub returns-else-self-lt-ROOM : goal.returns-else-self-lt-ROOM
 unfolding pushed
-returns c = simp (lt-ltb _ room c.if-at-ge-ROOM.false)
+returns-else-self-lt-ROOM c = simp (le-ltb _ room c.if-self-lt-ROOM.false)

@@ -23,7 +23,7 @@ pub returns-then-n-lt0 : goal.returns-then-n-lt0
 returns-then-n-lt0 c =
     let z = c.args.n in
     let below = rw (to_z-of_z w64 z c.ranges.n) at c.if-n-lt0.true in
-    let sized = c.size.ensures ∙ ap nat_abs (to_z-of_z w64 z c.ranges.n) in
+    let sized = c.unsigned_abs.ensures.value ∙ ap nat_abs (to_z-of_z w64 z c.ranges.n) in
     with-minus _ z below c.bytes.ensures sized c.natural.ensures
 
 pub returns-else-n-lt0 : goal.returns-else-n-lt0

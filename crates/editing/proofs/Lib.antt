@@ -1,0 +1,2 @@
+-- Laws for the code of editing.
+pub mod PartsLaws

@@ -1,9 +1,0 @@
--- `text::input::is_digit` makes both tests.
-use borrow.Author.Tests.{le-leb, lt-leb}
-use Rattle.text.proofs.input.is_digit.Goals as goal
-
-pub returns-then-b-ge48 : goal.returns-then-b-ge48
-returns-then-b-ge48 c = rw (le-leb 48 _ c.if-b-ge48.true)
-
-pub returns-else-b-ge48 : goal.returns-else-b-ge48
-returns-else-b-ge48 c = rw (lt-leb 48 _ c.if-b-ge48.false)
