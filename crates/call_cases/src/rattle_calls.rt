@@ -6,6 +6,7 @@
 //     mismatch SUM
 // A refusal stands after the first word, as `refused NUMBER [PLACE..]`, with the side before the number where there are
 // two outlines; in removing the list to write follows it.
+// (A function for each call: they differ in all that they print but the name.)
 use crate::report;
 use case_input::LONGEST;
 use case_lines::edits::print_edit;

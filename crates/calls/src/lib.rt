@@ -95,6 +95,7 @@ pub fn convex_hull(s: &[i32], out: &mut [i32], marks: &mut [i32]) -> Result<usiz
     ensures rules { IsHullAnswer s.now out.old marks.old result out.new marks.new }
 {
     wrapping::checks::check_points(s, out.len(), marks.len())?;
+    // A list and a count, since there is no heap.
     let mut hull = no_numbers();
     let count = wrapping::convex_hull(s, &mut hull);
     if count < FEWEST {

@@ -13,24 +13,26 @@ use std::marker::Model;
 // More numbers than any list of an input has.
 pub const LONGEST: usize = 520;
 
-// The longest input, in bytes.
+// The longest input, in bytes. Each program has its own `main`, which reads its stored input. (A fixed list, since there is no heap.)
 const ROOM: usize = 1048576;
 
-// Room for the bytes of an input. The length as a contract spares a caller's proof the list of all the zeros.
+// Room for the bytes of an input. The length as a contract spares a caller's proof the list of all the zeros: with
+// `[0; ROOM]` in `main` the check runs out of stack.
 pub fn room() -> [u8; ROOM]
     ensures { 1048576 ≡ length result }
 {
     [0; ROOM]
 }
 
-// A natural number with one digit more. ASCII's digits are 48 to 57, and 48 is 3 times 16.
+// A natural number with one digit more. (Not by `parse`, which fails where a number is too large.) ASCII's digits are
+// 48 to 57, and 48 is 3 times 16.
 fn with_digit(size: u32, digit: u8) -> u32
     ensures { result ≡ with_digit size digit }
 {
     size.wrapping_mul(10).wrapping_add(u32::from(digit % 16))
 }
 
-// How many digits stand at the front, or other bytes.
+// How many digits stand at the front, or other bytes. (A flag, as in `text::input::run`, of which the definition differs.)
 fn run(s: &[u8], of_digits: bool) -> usize
     ensures value { result ≡ run of_digits s.now }
     ensures bound { result ≤ length s.now }
@@ -83,7 +85,7 @@ impl<'a> Cursor<'a> {
         passed
     }
 
-    // The next number without its sign, and whether it has a minus.
+    // The next number without its sign, and whether it has a minus: a size may be above every i32.
     fn number(&mut self) -> (bool, u32)
         ensures sign { result.0 ≡ is_negative self.old }
         ensures size { result.1 ≡ natural self.old }

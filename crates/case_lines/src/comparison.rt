@@ -46,13 +46,9 @@ fn print_report(rt: &impl Print, report: Report) -> io::Result<()> {
     }
 }
 
-fn print_refusal(rt: &impl Print, refusal: Refusal) -> io::Result<()> {
-    print::write(rt, answer_text::refusal(Text::empty(), refusal))
-}
-
 fn print_parts(rt: &impl Print, comparison: Result<Report, Refusal>) -> io::Result<()> {
     match comparison {
-        Err(refusal) => print_refusal(rt, refusal),
+        Err(refusal) => print::write(rt, answer_text::refusal(Text::empty(), refusal)),
         Ok(report) => print_report(rt, report),
     }
 }

@@ -1,5 +1,5 @@
-// Lines of the programs that test, which more than one of them prints. Each part of a line but the first has a space before
-// it.
+// Lines of the programs that test, which more than one of them prints. (Functions and no `Display`: the types are of
+// other crates.) Each part of a line but the first has a space before it.
 #![tactic(auto)]
 
 pub mod comparison;

@@ -1,5 +1,7 @@
 -- Comparing makes the steps of the sweep and reports what they find.
---     window-read          corners read from the value of a list, around one of them, are what a step sees there
+--     places               the bounds of a window's corners
+--     window-seen          corners read from a value, around one of them, are what a step sees there
+--     window-read          the same of the value of a list
 --     window-held          it is what a step sees of the list that the value holds
 --     held-count           a list gives as many corners as are held
 -- Of two lists that are accepted, each with its orientation:
@@ -25,7 +27,7 @@ use Rattle.outline.specs.Corners.{corners, corner, next, previous, held, most, o
 use Rattle.outline.specs.code.Held.{corners_of}
 use Rattle.outline.specs.Orientation.{as_held, AcceptedAs}
 use Rattle.outline.proofs.EdgeLaws.{accepted-polygon}
-use Rattle.outline.proofs.HeldLaws.{corners_of-held}
+use Rattle.outline.proofs.HeldLaws.{corners_of-held, held-corner}
 use Rattle.outline.proofs.CornersLaws.{before-below, after-below}
 use Rattle.outline.proofs.OrientationLaws.{held-length}
 use Rattle.outline.specs.declared.Side.{Side}
@@ -47,11 +49,11 @@ use Rattle.comparing.specs.ReportOf.{listed_of, Reportable, report_of}
 use Rattle.comparing.proofs.ReportLaws.{listed-held, after-reportable, steps_made, report_of-after}
 use Rattle.sweep.proofs.BeginLaws.{begins-after}
 
--- for the bounds of what is read
+-- the bounds of a window's corners
 pub ruleset places = (after-below)
 
 -- the corners are in the places of their numbers
-pub window-read : (o : Outline) {i earlier before after later : ℕ} → o.count ≤ length o.corners → i < o.count
+pub window-seen : (o : Outline) {i earlier before after later : ℕ} → o.count ≤ length o.corners → i < o.count
     → before ≡ previous o.count i → earlier ≡ previous o.count before → after ≡ next o.count i
     → later ≡ next o.count after
     → ◌≡◌ {A = Window} (record {
@@ -63,7 +65,7 @@ pub window-read : (o : Outline) {i earlier before after later : ℕ} → o.count
       after = corner o.corners after;
       later = corner o.corners later;
     }) (window_at (corners_of o) i)
-window-read o {i} {earlier} {before} {after} {later} fits known before_is earlier-is after_is later-is =
+window-seen o {i} {earlier} {before} {after} {later} fits known before_is earlier-is after_is later-is =
     let read : (j : ℕ) → j < o.count → corner (corners_of o) j ≡ corner o.corners j =
     λ j below. get_or-take o.count o.corners j origin below in
     let known_before = before-below before_is known in
@@ -79,6 +81,31 @@ window-read o {i} {earlier} {before} {after} {later} fits known before_is earlie
       read after known_after,
       read earlier (before-below earlier-is known_before),
       read later (after-below later-is known_after),
+    )
+
+-- so they are in the value of a list
+pub window-read : (cs : List Corner) {o : Outline} {n i earlier before after later : ℕ} → o ≡ held cs → n ≡ length cs
+    → i < n → before ≡ previous n i → earlier ≡ previous n before → after ≡ next n i → later ≡ next n after
+    → ◌≡◌ {A = Window} (record {
+      count = n;
+      number = i;
+      earlier = corner o.corners earlier;
+      before = corner o.corners before;
+      corner = corner o.corners i;
+      after = corner o.corners after;
+      later = corner o.corners later;
+    }) (window_at cs i)
+window-read cs {o} {n} {i} {earlier} {before} {after} {later} holds counted known before_is earlier-is after_is
+    later-is =
+    let read : (j : ℕ) → j < n → corner o.corners j ≡ corner cs j =
+    λ j below. rw holds (held-corner cs j (omega (arith, counted))) in
+    cc (
+      counted,
+      read i known,
+      read before (before-below before_is known),
+      read after (after-below after_is known),
+      read earlier (before-below earlier-is (before-below before_is known)),
+      read later (after-below later-is (after-below after_is known)),
     )
 
 -- what is seen of a held list is seen of the list

@@ -69,9 +69,11 @@ fn make_steps(outlines: &Sides<AcceptedOutline>, steps: u32) -> State
         a: outlines.a.orientation,
         b: outlines.b.orientation,
     };
+    let lowest_a = sweep::lowest(outlines.a.numbers, orientations.a);
+    let lowest_b = sweep::lowest(outlines.b.numbers, orientations.b);
     let mut state = State {
-        a: sweep::beginning(sweep::lowest(&outlines.a), a.count),
-        b: sweep::beginning(sweep::lowest(&outlines.b), b.count),
+        a: sweep::beginning(lowest_a, a.count),
+        b: sweep::beginning(lowest_b, b.count),
     };
     for _ in 0..steps {
         let windows = Sides {

@@ -14,6 +14,7 @@ use reading::corners::given_corner;
 use sweep::State;
 
 // What a report needs of a list: its orientation, how many corners it gives, and where corner 0 is.
+// It stands in for an `AcceptedOutline`, which is more than what `report_of` requires.
 #[derive(Clone, Copy)]
 pub struct Listed {
     pub orientation: Orientation,
@@ -49,7 +50,8 @@ fn or_within(side: Side, first: Corner, worst: Option<CornerGap>) -> CornerGap
     worst.unwrap_or_else(|| measuring::with_corner(side, 0, answers::within(first)))
 }
 
-// What is reported after fewer steps than there are.
+// What is reported after fewer steps than there are. `Reportable` stays a clause: the state is one of `sweep`, whose
+// definitions make states of which it does not hold.
 fn spent_of(state: State, steps: u32, listed_a: Listed, listed_b: Listed) -> Spent
     requires { Reportable state listed_a listed_b }
     ensures { result ≡ spent_of state steps listed_a listed_b }
@@ -84,6 +86,7 @@ fn done_of(state: State, steps: u32, listed_a: Listed, listed_b: Listed) -> Done
     }
 }
 
+// (The flag, and two `Listed` and no `Sides`: the definition takes them so.)
 // What there is to report after the steps made. The support corners are named by the lists as given, as the worst so far
 // of each side is in the state.
 pub fn report_of(state: State, steps: u32, is_spent: bool, a: Listed, b: Listed) -> Report

@@ -29,7 +29,7 @@ pub const SIDE_A_PLACE: usize = 14;
 
 pub const SIDE_B_PLACE: usize = 23;
 
-// The kinds of a comparison.
+// The kinds of a comparison: numbers, since C has them (`embed/ravinebowl.h`).
 const DONE: i64 = 0;
 
 const SPENT: i64 = 1;
@@ -37,7 +37,8 @@ const SPENT: i64 = 1;
 // Stands where a place does not apply: 0 could be taken for a figure.
 const ABSENT: i64 = -1;
 
-// A number as an i64.
+// A number as an i64. (No `From`: it asks that the number fits, as those below do. `ReportFits` and its parts stay clauses:
+// any numbers may stand in an answer.)
 fn signed(n: u64) -> i64
     requires { n < 2 ^ 63 }
     ensures { result ≡ pos n }
@@ -45,7 +46,7 @@ fn signed(n: u64) -> i64
     n as i64
 }
 
-// The kind of a feature.
+// The kind of a feature. (No `From`: both types are of other crates.)
 fn kind_of(feature: Feature) -> i64
     ensures { result ≡ kind_of feature }
 {
@@ -85,7 +86,7 @@ pub fn of_nearest(a: NearestPoint) -> [i64; NEAREST_LENGTH]
     ]
 }
 
-// The side of a corner.
+// The side of a corner. (No `From`: both types are of other crates.)
 fn side_code(side: Side) -> i64
     ensures { result ≡ side_code side }
 {

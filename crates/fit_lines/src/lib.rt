@@ -1,4 +1,4 @@
-// A comparison as the lines that the fit program writes.
+// A comparison as the lines that the fit program writes. No `Display`, for the reason that `answer_text` gives.
 #![tactic(auto)]
 
 ghost use Rattle.std.specs.Prelude.{◌≡◌};

@@ -34,7 +34,8 @@ fn numbers(s: &[u8], from: usize, out: &mut [i32]) -> Option<usize>
     Some(next)
 }
 
-// Reads a corner count and the numbers of an outline to a list. Gives how many numbers, and the place after them.
+// Reads a corner count and the numbers of an outline to a list, whose length stays a clause, as in `traversal::walk`.
+// Gives how many numbers, and the place after them.
 fn outline(s: &[u8], from: usize, out: &mut [i32]) -> Result<(usize, usize), ReadError>
     requires { 2 * most ≤ length out.old }
     ensures room { count_of result ≤ length out.old }

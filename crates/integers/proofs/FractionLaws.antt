@@ -39,7 +39,7 @@ order-means x y = grind (arith, nat_tests)
 pub order-iff : (o : Ordering) (x y : ℕ) → (order x y ≡ o) ↔ Means o x y
 order-iff o x y = (λ e. subst (λ (p : Ordering). Means p x y) e (order-means x y), order-unique o x y)
 
--- A cross product may need 96 bits. Held in two parts it is compared by them: high parts that differ decide, and where
+-- A cross product may need 96 bits. In two parts it can be compared by them: high parts that differ decide, and where
 -- they are equal only the low parts are left to compare.
 pub order-by-parts : (m n : ℕ) → order m n ≡ ordering_then (order (m / 2 ^ 32) (n / 2 ^ 32)) (order (m % 2 ^ 32) (n % 2 ^ 32))
 order-by-parts m n = grind (arith, nat_tests)

@@ -7,7 +7,8 @@ ghost use Rattle.integers.specs.code.Units.{whole_units};
 use crate::root::root;
 use std::cmp::Ordering;
 
-// An upper number over a lower number. It is never reduced.
+// An upper number over a lower number. It is never reduced. `Bounded` stays a clause: definitions make a fraction of any
+// two numbers.
 #[derive(Clone, Copy)]
 pub struct Fraction {
     pub upper: u64,
@@ -15,7 +16,8 @@ pub struct Fraction {
 }
 
 impl Fraction {
-    // The order of two fractions: exactly that of their cross products, which may need more than 64 bits.
+    // The order of two fractions: exactly that of their cross products, which may need more than 64 bits. (No `Ord`: that
+    // asks for an order of all values, and each fraction would be equal to 0/0.)
     pub fn compare(self, other: Fraction) -> Ordering
         ensures { result ≡ order (self.upper * other.lower) (other.upper * self.lower) }
     {

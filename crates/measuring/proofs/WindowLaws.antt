@@ -46,3 +46,6 @@ module _ {w : Window} (window : IsWindow w) where
   local_values-below v LocalFeature.EdgeBefore = before-below refl window-below
   local_values-below v LocalFeature.CornerAfter = after-below refl window-below
   local_values-below v LocalFeature.CornerBefore = before-below refl window-below
+
+-- for what a function asks of the corners of a window
+pub ruleset ranges = (window-range)

@@ -23,6 +23,8 @@ use reading::corners;
 
 // What a step sees of an outline: how many corners it has, its support corner with its number, and the two corners on
 // either side, counted round the outline: `earlier` is the corner before `before`, `later` the corner after `after`.
+// `IsWindow` stays a clause: a ghost field would have to hold of what `window_at` gives, by which `CanStep` and the laws
+// say what a step sees, and that gives a window of any list at any number.
 #[derive(Clone, Copy)]
 pub struct Window {
     pub count: usize,
@@ -74,6 +76,7 @@ fn end_is_nearest(v: Corner, is_right: bool, is_after: bool, end: Corner, beyond
 // the edge's other end, which is `end`; `beyond` is the next corner the same way round. is_right: v is strictly
 // right of the edge; is_after: it is the edge after the support corner. Start: v's foot is at the support corner,
 // or off the edge on that side; None: v is nearest to none of the edge's parts.
+// The flag is_after stays: of a closure that tests a side, each clause would have to say what it answers.
 fn edge_part(
     v: Corner,
     to: Vector,
@@ -154,6 +157,7 @@ pub fn local_feature(v: Corner, w: Window) -> Option<LocalFeature>
 }
 
 // The gap and the nearest point of a local feature.
+#[tactic(auto, using(crate::proofs::WindowLaws::ranges))]
 fn local_values(v: Corner, w: Window, f: LocalFeature) -> NearestPoint
     requires in_range { InRange v }
     requires window { IsWindow w }
@@ -193,6 +197,7 @@ fn given_number(orientation: Orientation, w: Window) -> usize
     corners::given_corner(orientation, w.count, w.number)
 }
 
+// (`BoundedWorst` stays a clause, as `Bounded` does: `integers::fraction`.)
 // Whether the worst so far of a side changes when its support corner, that of `own`, is measured against the one of `w`;
 // f is what `local_feature` found. Of equal gaps the numbers as given decide, by the orientation of the side's list.
 pub fn changes(

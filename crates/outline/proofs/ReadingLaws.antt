@@ -1,5 +1,6 @@
 -- What the strict reading answers, as callers see it.
---     reading-taken      the list is taken exactly where its length is even and it gives an accepted outline
+--     reading-taken      an outline is read exactly where the list's length is even and it gives an accepted outline, of
+--                        whose corners it is the value
 --     reading-refused    it is refused exactly where a condition applies, with the refusal of the first that does
 --     is-reading         what it gives is as rule 7.2 lays down
 --     reading-unique     and nothing else is
@@ -33,8 +34,11 @@ use Rattle.outline.proofs.CornersLaws.{length-corners, corner-at}
 use Rattle.outline.proofs.HeldLaws.{held-corner, corners_of-held, held-outline}
 
 module _ (whose : Option Side) (s : List ℤ) where
-  pub reading-taken : (reading whose s ≡ Ok (held (corners s))) ↔ AcceptedList s
-  reading-taken = Iff.trans (answer-taken (check whose s) (held (corners s))) (accepted whose s)
+  pub reading-taken : {o : Outline} → (reading whose s ≡ Ok o) ↔ ((o ≡ held (corners s)) × AcceptedList s)
+  reading-taken = (
+    λ is-read. (let (is, takes) = answer-ok (check whose s) is-read in (is, (accepted whose s).0 takes)),
+    λ (is, ok). rw is ((answer-taken (check whose s) (held (corners s))).1 ((accepted whose s).1 ok)),
+  )
 
   pub reading-refused : (r : Refusal) → (reading whose s ≡ Err r) ↔ FirstFault (reading_conditions whose s) r
   reading-refused r = Iff.trans (answer-refused (check whose s) (held (corners s)) r) (check-refused whose s r)
@@ -53,11 +57,11 @@ module _ (whose : Option Side) (s : List ℤ) where
 
   pub reading-unique : {result : Result Outline Refusal} → IsReading whose s result → result ≡ reading whose s
   reading-unique (refused r fault is) = is ∙ sym ((reading-refused r).1 fault)
-  reading-unique (taken ok is) = is ∙ sym (reading-taken.1 ok)
+  reading-unique (taken ok is) = is ∙ sym (reading-taken.1 (refl, ok))
 
   module _ {o : Outline} (is-read : reading whose s ≡ Ok o) where
     reading-holds : (o ≡ held (corners s)) × AcceptedList s
-    reading-holds = let (is, takes) = answer-ok (check whose s) is-read in (is, (accepted whose s).0 takes)
+    reading-holds = reading-taken.0 is-read
 
     pub reading-outline : IsOutline o
     reading-outline = rw reading-holds.0 (held-outline (corners s) reading-holds.1.1)

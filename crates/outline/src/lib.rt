@@ -11,7 +11,7 @@ pub const FEWEST: usize = 3;
 
 pub const MOST: usize = 256;
 
-// An outline as one value: how many corners it has, and places for 256 of them, the unused ones zero.
+// An outline as one value: how many corners it has, and places for 256 of them, the unused ones zero (rule 1.7).
 #[derive(Clone, Copy)]
 pub struct Outline {
     pub count: usize,

@@ -9,14 +9,16 @@ ghost use Rattle.plane.specs.Point.{whole};
 ghost use Rattle.plane.specs.Range.{InRange};
 ghost use Rattle.plane.specs.code.Range.{Span, reach, is_coordinate, in_range};
 
-// A point with whole coordinates; a corner of an outline.
+// A point with whole coordinates; a corner of an outline. `InRange` stays a clause: a corner that a caller gives may be out
+// of range, and a type for those in range would put a field's name into every clause and definition.
 #[derive(Clone, Copy, Debug, PartialEq, Eq)]
 pub struct Corner {
     pub x: i32,
     pub y: i32,
 }
 
-// The signed differences of two points.
+// The signed differences of two points. `Span` stays a clause: `difference` takes any points, so a
+// vector may be longer.
 #[derive(Clone, Copy)]
 pub struct Vector {
     pub x: i64,

@@ -49,7 +49,7 @@ fn at_edge(
 // The nearest point to v of an outline, as it is held: one pass over the edges. v is in the piece if it is strictly right
 // of none, and where it is right of one, some edge that it is right of has the nearest point at its start, between its
 // ends or at its end (`proofs/Pass.antt`). The vector from v to an edge's end is that to the start of the next. The
-// corners are read from the list: a value that holds them would be copied for each point.
+// corners are read from the list, so that none is copied.
 pub fn nearest(outline: &AcceptedOutline, v: Corner) -> NearestPoint
     requires { InRange v }
     ensures { result ≡ nearest (accepted_corners outline.now) v }

@@ -50,7 +50,7 @@ fn corner_is_nearest(v: Corner, before: Corner, c: Corner, after: Corner) -> boo
 }
 
 // The part of the edge from p to q, with the corners before and after it, that is the nearest feature, if one is; v
-// is strictly right of the edge.
+// is strictly right of the edge. (The corners stay apart, as the definition has them.)
 pub fn nearest_part(v: Corner, before: Corner, p: Corner, q: Corner, after: Corner) -> Option<Part>
     requires in_range { InRange v }
     requires in_range_2 { InRange before }

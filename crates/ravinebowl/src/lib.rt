@@ -97,6 +97,7 @@ pub fn ravinebowl_nearest_point(x: i32, y: i32, outline: &[i32], res: &mut [i64]
     }
 }
 
+// (Each function is C's, so what two of them do alike stands in both.)
 // Removes a corner from the outline that the list `outline` gives, and writes the other corners to `out`, in their
 // order. Refusals 1 to 6, 8, 2 and 9, in this order; 9 is for an `out` of the wrong length.
 pub fn ravinebowl_remove_corner(outline: &[i32], corner: usize, out: &mut [i32]) -> Status

@@ -1,5 +1,6 @@
 // The checks of a list, of which the first in the order of rule 2.4 stands. Each names the corner or edge that fails
-// it first; `whose` is the side that a refusal names.
+// it first; `whose` is the side that a refusal names. (List and side stay
+// apart: no fact holds of both, and half of what takes the list has no side.)
 ghost use Rattle.std.specs.Prelude.{◌≡◌, ◌<◌, ◌≤◌, length};
 ghost use Rattle.plane.specs.Range.{InRange};
 ghost use Rattle.plane.specs.code.Range.{Span, reach};
@@ -126,7 +127,9 @@ fn is_not_left(edge: Edge, c: usize, v: Corner) -> bool
     !plane::is_left(edge.from, edge.run, v)
 }
 
-// 6, for edge e alone: the first corner that is not strictly left of it.
+// 6, for edge e alone: the first corner that is not strictly left of it. `AllInRange` stays a clause, and
+// the count of `check_shape`: `orientation` and `check_shape` take any list that meets them, so a type would serve three
+// private checks, and each clause would name its field.
 fn check_edge(s: &[i32], whose: Option<Side>, e: usize) -> Result<(), Refusal>
     requires e_in_bounds { e < length (corners s.now) }
     requires all_in_range { AllInRange (corners s.now) }

@@ -11,7 +11,8 @@ use plane::Corner;
 // How many numbers the list of an outline has at the most.
 pub const MOST_NUMBERS: usize = 2 * MOST;
 
-// Room for the numbers of an outline. The contract has its length alone, not the list of all the zeros.
+// Room for the numbers of an outline. Who reads fewer to it keeps their count beside it, since there is no heap. The
+// contract has its length alone, not the list of all the zeros.
 pub fn no_numbers() -> [i32; MOST_NUMBERS]
     ensures { 2 * most ≡ length result }
 {
@@ -47,7 +48,7 @@ pub fn put_corner(out: &mut [i32], j: usize, c: Corner)
     out[2 * j + 1] = y;
 }
 
-// The number of the corner that follows corner i of n.
+// The number of the corner that follows corner i of n. That i is below n stays a clause: definitions name `next n i`.
 pub fn next(n: usize, i: usize) -> usize
     requires { i < n }
     ensures { result ≡ next n i }
@@ -63,7 +64,8 @@ pub fn previous(n: usize, i: usize) -> usize
     if i == 0 { n - 1 } else { i - 1 }
 }
 
-// The number, in the list as given, of the corner that is held as corner j of n.
+// The number, in the list as given, of the corner that is held as corner j of n. (Orientation and count stay apart: a
+// list has both, and a window of `measuring` the count alone.)
 pub fn given_corner(orientation: Orientation, n: usize, j: usize) -> usize
     requires { j < n }
     ensures { result ≡ given_corner orientation n j }

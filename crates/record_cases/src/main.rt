@@ -3,8 +3,6 @@
 // `tests/record_cases.py` writes the input and, by another way, what is to be printed.
 #![tactic(auto)]
 
-ghost use Rattle.std.specs.Prelude.{◌≡◌, length};
-
 use case_input::Cursor;
 use case_lines::comparison;
 use case_lines::status::{LONGEST_RESULT, RESULT_FILL, print_call};
@@ -49,15 +47,8 @@ fn answer_calls(rt: &impl Print, store: &[i32], given: Given) -> io::Result<()> 
     })
 }
 
-// Room for the numbers of a store. The length as a contract spares a caller's proof the list of all the zeros.
-fn room() -> [i32; LONGEST_STORE]
-    ensures { 2401 ≡ length result }
-{
-    [0; LONGEST_STORE]
-}
-
 fn answer_case(rt: &impl Print, case: &mut Cursor) -> io::Result<()> {
-    let mut room = room();
+    let mut room = [0; LONGEST_STORE];
     let store = case.list(&mut room);
     answer_calls(rt, store, Given::read(case))
 }

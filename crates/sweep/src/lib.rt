@@ -2,7 +2,9 @@
 #![tactic(auto)]
 
 ghost use Rattle.std.specs.Prelude.{◌≡◌, suc, ◌<◌};
-ghost use Rattle.reading.specs.Accepted.{accepted_corners};
+ghost use Rattle.outline.specs.Convex.{Accepted};
+ghost use Rattle.outline.specs.Corners.{corners};
+ghost use Rattle.outline.specs.Orientation.{as_held};
 ghost use Rattle.hausdorff.specs.Pair.{both_orientations};
 ghost use Rattle.hausdorff.specs.code.Lowest.{LowestLeftmost};
 ghost use Rattle.sweep.specs.State.{IsAfter, CanStep, beginning};
@@ -12,8 +14,7 @@ ghost use Rattle.sweep.specs.State.{changes_worst, with_worst};
 use hausdorff::{CornerGap, Sides};
 use measuring::{LocalFeature, Window};
 use outline::{Orientation, Side};
-use reading::accepted::AcceptedOutline;
-use reading::corners::next;
+use reading::corners::{count, held_corner, next};
 
 // One outline's part of the sweep: its support corner, how many of its edges are still to be passed,
 // and the worst so far of its corners, by the lists as given.
@@ -48,6 +49,7 @@ impl SideState {
 }
 
 impl State {
+    // `Measurable` stays a clause: it holds of two windows where each is one (`IsWindow`), which stays a clause too.
     // Whether the next edge is B's: if A has none left, or both have some and B's is strictly first. Directions that
     // are compared are less than half a turn apart (`proofs/NextEdge.antt`), so the sign of the side number decides.
     fn b_is_next(self, windows: Sides<Window>) -> bool
@@ -145,14 +147,20 @@ impl State {
     }
 }
 
-// The number, as held, of the lowest corner of an outline, of several the leftmost: there its first edge in the angular
-// order starts.
-pub fn lowest(outline: &AcceptedOutline) -> usize
-    ensures { LowestLeftmost (accepted_corners outline.now) result }
+// The number, as held, of the lowest corner of a list, of several the leftmost: there the outline's first edge in the
+// angular order starts.
+// Not by `wrapping::first_by`, which gives a point and not its number.
+// It takes no `AcceptedOutline`: that has an even length, and what `lowest` requires asks for none.
+pub fn lowest(s: &[i32], orientation: Orientation) -> usize
+    requires { Accepted (as_held orientation (corners s.now)) }
+    ensures { LowestLeftmost (as_held orientation (corners s.now)) result }
 {
     let mut found = 0;
-    for i in 1..outline.count() {
-        if plane::is_lower(outline.corner(i), outline.corner(found)) {
+    for i in 1..count(s) {
+        if plane::is_lower(
+            held_corner(s, orientation, i),
+            held_corner(s, orientation, found),
+        ) {
             found = i;
         }
     }

@@ -24,7 +24,7 @@ fn with_digit(value: u32, b: u8) -> Option<u32>
     Some(value * 10 + digit)
 }
 
-// The value of one to five digits.
+// The value of one to five digits. (Not by `parse`, which takes a plus and any number of digits.)
 fn natural(w: &[u8]) -> Option<i32>
     ensures { result ≡ natural w.now }
 {
@@ -62,7 +62,8 @@ fn is_of(separators: bool, b: u8) -> bool
     is_separator(b) == separators
 }
 
-// How many separators a text begins with, or how many other bytes.
+// How many separators a text begins with, or how many other bytes. (A flag: of a closure each clause would have to say
+// which bytes it takes.)
 fn run(s: &[u8], separators: bool) -> usize
     ensures { result ≡ prefix_len (is_of separators) s.now }
 {

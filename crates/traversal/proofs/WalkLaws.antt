@@ -17,7 +17,7 @@ use Rattle.outline.specs.code.Writing.{put_corner}
 use Rattle.outline.proofs.WritingLaws.{put-length, put-after}
 use Rattle.records.specs.declared.Record.{Record}
 use Rattle.records.specs.Chain.{records, record_at, Walk, stopped, walk_from, walk, chain_list}
-use Rattle.records.proofs.ChainLaws.{Names, walk_from-full, walk_from-none, walk_from-record}
+use Rattle.records.proofs.ChainLaws.{Names, records-fit, walk_from-full, walk_from-none, walk_from-record}
 use Rattle.traversal.specs.declared.Stop.{Stop}
 use Rattle.traversal.specs.Stop.{stop_of}
 
@@ -78,3 +78,6 @@ module _ {s : List ℤ} {start : ℤ} {out₀ out : List ℤ} {stop : Stop} (w :
     where
       whole : walk s start ≡ after w.read (stopped stop.index)
       whole = w.gives ∙ ap (after w.read) (nothing ends)
+
+-- for what a function reads of a store
+pub ruleset sizes = (records-fit)

@@ -15,7 +15,7 @@ use reading::corners::put_corner;
 use reading::refusals::refuse;
 use records::{RECORD_LENGTH, Record};
 
-// Where a walk stops: how many corners are read, and the index that is met then.
+// Where a walk stops: how many corners are read, and the index that is met then, as the definition `Walk` has it.
 #[derive(Clone, Copy)]
 pub struct Stop {
     pub count: usize,
@@ -30,6 +30,7 @@ fn record_number(n: usize, index: i32) -> Option<usize>
 }
 
 // Record i of a store.
+#[tactic(auto, using(crate::proofs::WalkLaws::sizes))]
 fn record_at(store: &[i32], i: usize) -> Record
     requires { i < length (records store.now) }
     ensures { result ≡ record_at (records store.now) i }
@@ -44,7 +45,8 @@ fn record_at(store: &[i32], i: usize) -> Record
     }
 }
 
-// Reads the chain that starts at an index, and writes its corners to a list.
+// Reads the chain that starts at an index, and writes its corners to a list. (Its length stays a clause: the type
+// `&mut [i32; 512]` would turn longer lists away.)
 fn walk(store: &[i32], start: i32, out: &mut [i32]) -> Stop
     requires { 2 * most ≤ length out.old }
     ensures stop { result ≡ stop_of (walk store.now start) }

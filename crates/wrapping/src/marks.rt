@@ -6,7 +6,7 @@ ghost use Rattle.hull.specs.code.Marks.{is_repeat, number_from, mark, marks};
 use plane::Corner;
 use reading::corners::{corner, count};
 
-// The mark of a point that repeats an earlier one, and of a point that is no corner.
+// The mark of a point that repeats an earlier one, and of a point that is no corner: numbers of a lent list (rule 1.12).
 const REPEATED: i32 = -1;
 
 const NO_CORNER: i32 = -2;

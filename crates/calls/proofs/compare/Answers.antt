@@ -4,12 +4,11 @@ use Rattle.std.proofs.lemmas.Result.{err_from_is_err_and}
 use Rattle.hausdorff.proofs.CallLaws.{call-refused, call-reported, call-promises}
 use Rattle.calls.proofs.compare.Goals as goal
 
-pub returns-in_err-outlines : goal.returns-in_err-outlines
-returns-in_err-outlines c =
+pub returns-in_err-outlines-clause-rules : goal.returns-in_err-outlines-clause-rules
+returns-in_err-outlines-clause-rules c =
     let p = err_from_is_err_and c.from_residual.result c.from_residual.ensures.1 in
     let refuses = rw c.in_err-outlines.was at c.accept_pair.ensures in
-    let promised = call-promises _ _ _ (call-refused _ _ _ (sym refuses) refl) in
-    rw (p.1, p.2) (record { answer = promised.0; rules = promised.1 })
+    rw (p.1, p.2) (call-promises _ _ _ (call-refused _ _ _ (sym refuses) refl)).1
 
 pub returns : goal.returns
 returns c =

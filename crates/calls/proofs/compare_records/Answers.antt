@@ -1,16 +1,9 @@
 -- `calls::compare_records` goes by what reading the chains finds, and then compares the lists of their corners.
 use mathlib.Core.Path.{sym, ◌∙◌}
 use native.Mathlib.Omega.{arith}
-use mathlib.Core.List.{List}
-use lib.IntN.{ℤ}
 use lib.ListN.{length-take}
-use mir.Syntax.{w32}
-use mir.Val.{SFits, of_z, to_z}
 use mir.Facts.{to_z-of_z}
 use Rattle.std.proofs.lemmas.Result.{err_from_is_err_and}
-use Rattle.std.specs.Prelude.{ℕ, Result}
-use Rattle.outline.specs.declared.Refusal.{Refusal}
-use Rattle.records.specs.code.Reading.{ReadsChains}
 use Rattle.records.proofs.CallLaws.{records-refuses, call-promises, chains-compared}
 use Rattle.calls.proofs.compare_records.Goals as goal
 

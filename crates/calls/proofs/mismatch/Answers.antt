@@ -4,15 +4,13 @@ use Rattle.std.proofs.lemmas.Result.{err_from_is_err_and}
 use Rattle.mismatch.proofs.CallLaws.{call-refused, call-summed, call-promises}
 use Rattle.calls.proofs.mismatch.Goals as goal
 
-pub returns-in_err-outlines : goal.returns-in_err-outlines
-returns-in_err-outlines c =
+pub returns-in_err-outlines-clause-rules : goal.returns-in_err-outlines-clause-rules
+returns-in_err-outlines-clause-rules c =
     let p = err_from_is_err_and c.from_residual.result c.from_residual.ensures.1 in
     let refuses = rw c.in_err-outlines.was at c.accept_pair.ensures in
-    let promised = call-promises _ _ (call-refused _ _ (sym refuses) refl) in
-    rw (p.1, p.2) (record { answer = promised.0; rules = promised.1 })
+    rw (p.1, p.2) (call-promises _ _ (call-refused _ _ (sym refuses) refl)).1
 
-pub returns : goal.returns
-returns c =
+pub returns-clause-rules : goal.returns-clause-rules
+returns-clause-rules c =
     let (is-a, is_b, takes) = (rw c.in_ok-outlines.was at c.accept_pair.ensures) in
-    let promised = call-promises _ _ (call-summed _ _ (sym takes) refl (rw (is-a, is_b) at c.mismatch_sum.ensures)) in
-    record { answer = promised.0; rules = promised.1 }
+    (call-promises _ _ (call-summed _ _ (sym takes) refl (rw (is-a, is_b) at c.mismatch_sum.ensures))).1

@@ -2,5 +2,5 @@
 use Rattle.outline.proofs.EitherLaws.{either-promises}
 use Rattle.calls.proofs.read_outline.Goals as goal
 
-pub returns : goal.returns
-returns c = let promised = either-promises _ _ c.read_either.ensures in record { answer = promised.0; rules = promised.1 }
+pub returns-clause-rules : goal.returns-clause-rules
+returns-clause-rules c = (either-promises _ _ c.read_either.ensures).1

@@ -2,5 +2,5 @@
 use Rattle.outline.proofs.ReadingLaws.{reading-promises}
 use Rattle.calls.proofs.read_outline_strict.Goals as goal
 
-pub returns : goal.returns
-returns c = let promised = reading-promises _ _ c.read.ensures in record { answer = promised.0; rules = promised.1 }
+pub returns-clause-rules : goal.returns-clause-rules
+returns-clause-rules c = (reading-promises _ _ c.read.ensures).1

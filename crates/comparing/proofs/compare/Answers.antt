@@ -1,5 +1,5 @@
 -- `comparing::compare` makes the steps that are allowed, at most all, and reports.
-use mathlib.Core.Path.{sym, ◌≡◌, ◌∙◌}
+use mathlib.Core.Path.{◌∙◌}
 use Rattle.outline.proofs.OrientationLaws.{held-length}
 use Rattle.comparing.proofs.CompareLaws.{listed-reportable, compare-reports}
 use Rattle.comparing.proofs.ReportLaws.{min-steps}

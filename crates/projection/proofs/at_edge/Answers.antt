@@ -2,9 +2,7 @@
 use mathlib.Core.Path.{sym, ap, ◌∙◌}
 use native.Mathlib.Omega.{arith}
 use Prim.Native.Nat.{◌<◌}
-use Rattle.outline.specs.Corners.{corners}
-use Rattle.outline.specs.Orientation.{as_held}
-use Rattle.outline.proofs.CornersLaws.{before-below, after-below}
+use Rattle.outline.proofs.CornersLaws.{after-below}
 use Rattle.std.specs.Prelude.{Some}
 use Rattle.outline.proofs.EitherLaws.{accepted-held}
 use Rattle.reading.specs.Accepted.{accepted_corners}

@@ -1,6 +1,0 @@
--- `case_lines::comparison::print_refusal` is safe: what is appended to the empty text is a text.
-use Rattle.answer_text.proofs.AppendedLaws.{empty-text, longer-text}
-use Rattle.case_lines.proofs.comparison.print_refusal.Goals as goal
-
-pub write-requires : goal.write-requires
-write-requires g c = search (longer-text, empty-text)
