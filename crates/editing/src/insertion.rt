@@ -8,6 +8,7 @@ ghost use Rattle.edit.specs.Insertion.{inserted};
 ghost use Rattle.edit.specs.code.Insertion.{check_placing, check_result, check_insertion};
 ghost use Rattle.edit.specs.code.Writing.{Insertable};
 
+use crate::copy;
 use outline::{Fault, MOST, Place, Refusal};
 use plane::Corner;
 use reading::refusals::refuse;
@@ -23,9 +24,9 @@ pub fn write_with(s: &[i32], k: usize, v: Corner, out: &mut [i32])
     let end = 2 * corners::count(s);
     let (before, rest) = out.split_at_mut(place);
     let (inserted, after) = rest.split_at_mut(2);
-    before.copy_from_slice(&s[..place]);
-    inserted.copy_from_slice(&[v.x, v.y]);
-    after.copy_from_slice(&s[place..end]);
+    copy(&s[..place], before);
+    copy(&[v.x, v.y], inserted);
+    copy(&s[place..end], after);
 }
 
 // 8, 7, 3 and 9, of a list, a place, a point and the length of the list to write.

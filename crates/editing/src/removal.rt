@@ -6,6 +6,7 @@ ghost use Rattle.edit.specs.code.Writing.{Removable};
 ghost use Rattle.edit.specs.Removal.{without};
 ghost use Rattle.edit.specs.code.Removal.{check_removal};
 
+use crate::copy;
 use outline::{Fault, Place, Refusal};
 use reading::refusals::refuse;
 use reading::{checks, corners};
@@ -40,6 +41,6 @@ pub fn write_without(s: &[i32], k: usize, out: &mut [i32])
     let place = 2 * k;
     let end = 2 * corners::count(s);
     let (before, after) = out.split_at_mut(place);
-    before.copy_from_slice(&s[..place]);
-    after.copy_from_slice(&s[place + 2..end]);
+    copy(&s[..place], before);
+    copy(&s[place + 2..end], after);
 }

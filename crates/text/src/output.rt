@@ -25,15 +25,14 @@ impl Text {
         }
     }
 
-    // The text with one byte more; a full one stays as it is.
-    fn push(mut self, b: u8) -> Text
-        ensures { result ≡ pushed self b }
+    // One byte more; a full text stays as it is.
+    fn push(&mut self, b: u8)
+        ensures { self.new ≡ pushed self.old b }
     {
         if self.count < ROOM {
             self.bytes[self.count] = b;
             self.count += 1;
         }
-        self
     }
 
     // The text with the bytes of a list after it.
@@ -41,21 +40,24 @@ impl Text {
         ensures { result ≡ appended self s.now }
     {
         for &b in s {
-            self = self.push(b);
+            self.push(b);
         }
         self
     }
 
     // The text with a number in decimal after it. It calls itself at most 19 times, one inside the other.
     // Not by `write!`, which promises the digits on Ok alone; `to_string` needs a heap.
-    pub fn natural(self, n: u64) -> Text
+    pub fn natural(mut self, n: u64) -> Text
         ensures { result ≡ appended self (decimal n) }
     {
         let digit = b'0' + (n % 10) as u8;
         if n < 10 {
-            return self.push(digit);
+            self.push(digit);
+            return self;
         }
-        self.natural(n / 10).push(digit)
+        let mut longer = self.natural(n / 10);
+        longer.push(digit);
+        longer
     }
 
     pub fn signed(self, n: i64) -> Text

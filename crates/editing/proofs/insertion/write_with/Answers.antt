@@ -12,9 +12,9 @@ returns c =
     let x_fits : SFits w32 c.args.v.x = search sfits_of in
     let y_fits : SFits w32 c.args.v.y = search sfits_of in
     rw (
-      c.copy_from_slice.ensures.after,
-      c.copy_from_slice-2.ensures.after,
-      c.copy_from_slice-3.ensures.after,
+      c.copy.ensures,
+      c.copy-2.ensures,
+      c.copy-3.ensures,
       to_z-of_z x_fits,
       to_z-of_z y_fits,
       c.count-end.ensures,

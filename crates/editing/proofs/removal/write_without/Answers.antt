@@ -5,5 +5,5 @@ use Rattle.editing.proofs.removal.write_without.Goals as goal
 
 pub returns : goal.returns
 returns c =
-    rw (c.copy_from_slice.ensures.after, c.copy_from_slice-2.ensures.after, c.count-end.ensures)
+    rw (c.copy.ensures, c.copy-2.ensures, c.count-end.ensures)
     (sym (without-parts _ _ c.requires.known))

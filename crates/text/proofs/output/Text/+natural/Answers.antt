@@ -24,4 +24,4 @@ returns-then-n-lt10 t c = c.push.ensures ∙ one-digit _ _ c.if-n-lt10.true
 pub returns : goal.returns
 returns t c =
     let enough : 2 ^ 64 < 10 ^ 20 = lit< tt in
-    c.push-2.ensures ∙ one_more _ _ _ (omega arith) c.if-n-lt10.false c.natural.ensures
+    c.push-2.ensures ∙ one_more _ _ _ (omega arith) c.if-n-lt10.false c.natural-longer.ensures

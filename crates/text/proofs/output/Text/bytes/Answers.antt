@@ -17,7 +17,7 @@ none_left t s i past = rw (drop_of_length-le s past)
 pub loop-b-preserved : goal.loop-b-preserved
 loop-b-preserved c =
     let l = c.loop-b in
-    rw c.push-self.ensures (sym (one_more l.self _ l.b-index c.loop-b-test.true) ∙ l.invariant)
+    rw c.push.ensures (sym (one_more l.self _ l.b-index c.loop-b-test.true) ∙ l.invariant)
 
 pub returns : goal.returns
 returns c = sym (none_left _ _ c.loop-b.b-index (omega arith)) ∙ c.loop-b.invariant
